@@ -1,0 +1,5 @@
+pub mod Words
+pub mod Turns
+pub mod Undo
+pub mod Permuting
+pub mod Keyed

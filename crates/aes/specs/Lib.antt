@@ -1,0 +1,3 @@
+pub mod KeySchedule
+pub mod Cipher
+pub mod Laws

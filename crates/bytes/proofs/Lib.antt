@@ -1,0 +1,4 @@
+pub mod Writes
+pub mod Xors
+pub mod Sames
+pub mod Parts

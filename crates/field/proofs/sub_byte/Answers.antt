@@ -1,0 +1,10 @@
+use mathlib.Core.Path.{_∙_}
+use Prim.Native.Nat.{_<_}
+use borrow.Author.Needs.{needs}
+use Rattle.field.proofs.Tables.{s-box-entry}
+use Rattle.field.proofs.sub_byte.Needs as need
+
+pub returns : need.returns
+returns c =
+    let byte : c .args .b < 256 = search needs in
+    c .s-box-entry .ensures ∙ s-box-entry (c .args .b) byte
