@@ -55,14 +55,14 @@ expanded-bytes nk key (suc n) h =
     append-bytes w (nextWord nk w (nk + n)) hw (next-bytes nk w (nk + n) hw)
 
 pub encrypt-length : (key s : List ℕ) → length (encrypt key s) ≡ 16
-unfolding encrypt cipher
+unfolding cipher
 encrypt-length key s =
     let nr = length key / 4 + 6 in
     let w = keyExpansion key in
     xors-length (shiftRows (subBytes (rounds w (nr - 1) s))) (roundKey w nr) ∙ shift-length (subBytes (rounds w (nr - 1) s))
 
 pub permutes : (key : List ℕ) → Bytes key → Permutes key
-unfolding encrypt decrypt keyExpansion
+unfolding keyExpansion
 permutes key h =
     let nr : ℕ = length key / 4 + 6 in
     let w : List ℕ = expanded (length key / 4) key (3 * (length key / 4) + 28) in

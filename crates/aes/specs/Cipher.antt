@@ -30,8 +30,8 @@ unfoldable pub invCipher : ℕ → List ℕ → List ℕ → List ℕ
 invCipher nr w s = invRounds w (nr - 1) (addRoundKey s (roundKey w nr))
 
 -- AES of a block: a key of Nk = length key / 4 words has Nr = Nk + 6 rounds
-unfoldable pub encrypt : List ℕ → List ℕ → List ℕ
+abbrev pub encrypt : List ℕ → List ℕ → List ℕ
 encrypt key s = cipher (length key / 4 + 6) (keyExpansion key) s
 
-unfoldable pub decrypt : List ℕ → List ℕ → List ℕ
+abbrev pub decrypt : List ℕ → List ℕ → List ℕ
 decrypt key s = invCipher (length key / 4 + 6) (keyExpansion key) s

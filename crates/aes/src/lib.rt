@@ -1,11 +1,14 @@
 //! AES of FIPS 197 with keys of 16 and 32 bytes; the key schedule is a lent string of bytes.
 ghost use mathlib.Core.Bool.{true};
+ghost use mathlib.Core.List.{List};
 ghost use mathlib.Core.Path.{_≡_};
-ghost use Prim.Native.Nat.{ℕ, _+_, _-_, _*_, _/_, _<_, _≤_};
+ghost use Prim.Native.Nat.{ℕ, _+_, _*_, _/_, _<_, _≤_};
 ghost use lib.ListN.{length, take};
 ghost use Rattle.bytes.specs.Strings.{xors};
 ghost use Rattle.aes.specs.KeySchedule.{keyLength, subWord, rotWord, rcon, powerOfX, temp, nextWord, expanded, keyExpansion};
-ghost use Rattle.aes.specs.Cipher.{roundKey, rounds, cipher, invRounds, invCipher, encrypt, decrypt};
+ghost use Rattle.round.specs.Rounds.{lastRound};
+ghost use Rattle.round.specs.State.{addRoundKey};
+ghost use Rattle.aes.specs.Cipher.{roundKey, cipher, invCipher, encrypt, decrypt};
 ghost use Rattle.aes.specs.Laws.{Aes-permutes-blocks};
 use bytes::part_of;
 use bytes::put;
@@ -119,11 +122,11 @@ fn round_key(w: &[u8], r: usize) -> [u8; 16]
     part_of(w, 16 * r)
 }
 
-// The first AddRoundKey and all rounds but the last.
+// The first AddRoundKey and all rounds but the last, which makes the cipher of it.
 fn forward(w: &[u8], nr: usize, block: [u8; 16]) -> [u8; 16]
     requires some { ⌜ 1 ≤ nr ⌝ }
     requires keys { ⌜ 16 * nr + 16 ≤ length (now w) ⌝ }
-    ensures { λ r. ⌜ r ≡ rounds (now (w .entry)) (nr - 1) block ⌝ }
+    ensures { λ r. ⌜ lastRound r (roundKey (now (w .entry)) nr) ≡ cipher nr (now (w .entry)) block ⌝ }
 {
     let mut s = xor_block(block, round_key(w, 0));
     for i in 1..nr {
@@ -142,11 +145,11 @@ pub fn encipher(w: &[u8], nr: usize, block: [u8; 16]) -> [u8; 16]
     last_round(forward(w, nr, block), round_key(w, nr))
 }
 
-// The rounds of InvCipher, from before its first AddRoundKey was undone.
+// The rounds of InvCipher, after its first AddRoundKey.
 fn backward(w: &[u8], nr: usize, block: [u8; 16]) -> [u8; 16]
     requires some { ⌜ 1 ≤ nr ⌝ }
     requires keys { ⌜ 16 * nr + 16 ≤ length (now w) ⌝ }
-    ensures { λ r. ⌜ r ≡ invRounds (now (w .entry)) (nr - 1) block ⌝ }
+    ensures { λ r. ⌜ ((b : List ℕ) → block ≡ addRoundKey b (roundKey (now (w .entry)) nr) → r ≡ invCipher nr (now (w .entry)) b) ⌝ }
 {
     let mut s = block;
     for i in (1..nr).rev() {

@@ -3,7 +3,7 @@ use mathlib.Core.List.{List}
 use Prim.Native.Nat.{ℕ, _+_, _-_}
 use native.Mathlib.Omega.{arith}
 use Rattle.round.specs.Rounds.{invRound, invLastRound}
-use Rattle.aes.specs.Cipher.{invRounds, roundKey}
+use Rattle.aes.specs.Cipher.{invRounds, roundKey, invCipher}
 use Rattle.aes.proofs.Turns.{inv-rounds-none, inv-rounds-more}
 use Rattle.aes.proofs.backward.Needs as need
 
@@ -18,7 +18,8 @@ loop-i-again c =
     ∙ c .loop-i .inv
 
 pub returns : need.returns
-returns c =
+unfolding invCipher
+returns c = λ b start.
     let w : List ℕ = c .args .w .now in
     let end : _≡_ {A = ℕ} 0 (c .loop-i .i - 1) = omega arith in
     c .inv-last-round .ensures
@@ -26,3 +27,4 @@ returns c =
     ∙ inv-rounds-none w (c .loop-i .s)
     ∙ ap (λ (n : ℕ). invRounds w n (c .loop-i .s)) end
     ∙ c .loop-i .inv
+    ∙ ap (invRounds w (c .args .nr - 1)) start

@@ -3,8 +3,8 @@ use mathlib.Core.List.{List}
 use Prim.Native.Nat.{ℕ, _+_, _-_}
 use native.Mathlib.Omega.{arith}
 use Rattle.bytes.specs.Strings.{xors}
-use Rattle.round.specs.Rounds.{roundOf}
-use Rattle.aes.specs.Cipher.{rounds, roundKey}
+use Rattle.round.specs.Rounds.{roundOf, lastRound}
+use Rattle.aes.specs.Cipher.{rounds, roundKey, cipher}
 use Rattle.aes.proofs.Turns.{rounds-none, rounds-more}
 use Rattle.aes.proofs.forward.Needs as need
 
@@ -22,7 +22,9 @@ loop-i-again c = λ b start.
     ∙ ap (λ (n : ℕ). rounds w n b) next
 
 pub returns : need.returns
+unfolding cipher
 returns c =
     let end : c .loop-i .i - 1 ≡ c .args .nr - 1 = omega arith in
-    c .loop-i .inv (c .args .block) (c .xor-block-s .ensures ∙ ap (xors (c .args .block)) (c .round-key .ensures))
-    ∙ ap (λ (n : ℕ). rounds (c .args .w .now) n (c .args .block)) end
+    ap (λ (s : List ℕ). lastRound s (roundKey (c .args .w .now) (c .args .nr)))
+    (c .loop-i .inv (c .args .block) (c .xor-block-s .ensures ∙ ap (xors (c .args .block)) (c .round-key .ensures))
+    ∙ ap (λ (n : ℕ). rounds (c .args .w .now) n (c .args .block)) end)
