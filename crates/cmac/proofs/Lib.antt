@@ -1,0 +1,3 @@
+pub mod Chained
+pub mod Padded
+pub mod Sizes

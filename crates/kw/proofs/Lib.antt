@@ -1,0 +1,3 @@
+pub mod Overs
+pub mod Steps
+pub mod Lawful

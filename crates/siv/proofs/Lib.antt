@@ -1,0 +1,6 @@
+pub mod Tails
+pub mod Streams
+pub mod Vectors
+pub mod Opened
+pub mod Sizes
+pub mod Lawful
