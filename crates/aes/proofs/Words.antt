@@ -67,9 +67,11 @@ key-words n h = go (eqb n 16) refl
     words : n ≡ 16 ⊎ n ≡ 32 → (4 ≤ n / 4) × (n / 4 ≤ 8) × (4 * (n / 4) ≡ n)
     words (inl e) = (omega arith, omega arith, omega arith)
     words (inr e) = (omega arith, omega arith, omega arith)
+
     other : (b c : Bool) → b || c ≡ true → b ≡ false → c ≡ true
     other true c e f = let z : _≡_ {A = ℕ} 0 1 = cc in absurd (omega arith)
     other false c e f = e
+
     go : (b : Bool) → eqb n 16 ≡ b → (4 ≤ n / 4) × (n / 4 ≤ 8) × (4 * (n / 4) ≡ n)
     go true e = words (inl (eqb-true n 16 e))
     go false e = words (inr (eqb-true n 32 (other (eqb n 16) (eqb n 32) h e)))

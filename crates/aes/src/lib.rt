@@ -23,7 +23,12 @@ use round::round;
 fn sub_word(a: [u8; 4]) -> [u8; 4]
     ensures { λ r. ⌜ r ≡ subWord a ⌝ }
 {
-    [sub_byte(a[0]), sub_byte(a[1]), sub_byte(a[2]), sub_byte(a[3])]
+    [
+        sub_byte(a[0]),
+        sub_byte(a[1]),
+        sub_byte(a[2]),
+        sub_byte(a[3]),
+    ]
 }
 
 fn rot_word(a: [u8; 4]) -> [u8; 4]
@@ -89,7 +94,10 @@ fn next_word(w: &[u8], nk: usize, i: usize) -> [u8; 4]
     requires few { ⌜ i / nk < 11 ⌝ }
     ensures { λ r. ⌜ r ≡ nextWord nk (now (w .entry)) i ⌝ }
 {
-    xor_word(part_of(w, 4 * (i - nk)), temp_word(nk, i, part_of(w, 4 * (i - 1))))
+    xor_word(
+        part_of(w, 4 * (i - nk)),
+        temp_word(nk, i, part_of(w, 4 * (i - 1))),
+    )
 }
 
 // Writes the words after the key's nk, which `w` begins with.

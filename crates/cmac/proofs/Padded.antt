@@ -1,10 +1,10 @@
 -- The padding as the code writes it.
-use mathlib.Core.Path.{_≡_, refl, sym, ap, _∙_}
-use mathlib.Core.List.{List, [], _∷_, _++_}
+use mathlib.Core.Path.{_≡_, ap, _∙_}
+use mathlib.Core.List.{List, _∷_, _++_}
 use Prim.Native.Nat.{ℕ, _+_, _-_, _<_}
 use native.Mathlib.Nat.{zero-add}
 use native.Mathlib.Omega.{arith}
-use lib.ListN.{length, take, drop, set, replicate}
+use lib.ListN.{length, drop, set, replicate}
 use Rattle.std.proofs.shelf.Lists.{drop-set, drop-replicate, length-replicate}
 use Rattle.bytes.specs.Strings.{over}
 use Rattle.cmac.specs.Cmac.{padding}

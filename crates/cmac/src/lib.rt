@@ -1,7 +1,7 @@
 //! AES-CMAC, RFC 4493.
 ghost use mathlib.Core.Bool.{cond};
 ghost use mathlib.Core.Path.{_≡_};
-ghost use Prim.Native.Nat.{ℕ, _≤_, _<_};
+ghost use Prim.Native.Nat.{_≤_, _<_};
 ghost use lib.ListN.{length, set};
 ghost use Rattle.aes.specs.Cipher.{cipher};
 ghost use Rattle.cmac.specs.Blocks.{numberOf, bytesOf, timesX, dbl};

@@ -101,9 +101,9 @@ apart f l a b c d =
     ap (λ (x : ℕ). f x b c d) (sym (xor-zero-r a))
     ∙ l a 0 0 0 0 b c d
     ∙ ap (bitXor (f a 0 0 0))
-      (ap (λ (x : ℕ). f 0 x c d) (sym (xor-zero-r b))
-      ∙ l 0 b 0 0 0 0 c d
-      ∙ ap (bitXor (f 0 b 0 0)) (ap (λ (x : ℕ). f 0 0 x d) (sym (xor-zero-r c)) ∙ l 0 0 c 0 0 0 0 d))
+    (ap (λ (x : ℕ). f 0 x c d) (sym (xor-zero-r b))
+    ∙ l 0 b 0 0 0 0 c d
+    ∙ ap (bitXor (f 0 b 0 0)) (ap (λ (x : ℕ). f 0 0 x d) (sym (xor-zero-r c)) ∙ l 0 0 c 0 0 0 0 d))
 
 -- two linear functions agree, if they do where one of the four bytes alone is not 0
 pub alike : (f g : OfColumn) → Linear f → Linear g

@@ -1,9 +1,9 @@
 -- AES-SIV of 32 bytes, as the laws of a key wrap have it.
-use mathlib.Core.Path.{_≡_, refl, sym, ap, _∙_, subst}
-use mathlib.Core.List.{List, [], _∷_, _++_}
+use mathlib.Core.Path.{_≡_, refl, subst}
+use mathlib.Core.List.{List, [], _∷_}
 use Prim.Native.Nat.{ℕ}
 use lib.Dec.{lit≤}
-use lib.ListN.{length, take, drop}
+use lib.ListN.{take, drop}
 use Rattle.std.specs.declared.option.Option.the-variants.{Some}
 use Rattle.aes.specs.Cipher.{encrypt}
 use Rattle.aes.proofs.Permuting.{permutes, encrypt-length}

@@ -1,20 +1,18 @@
 -- Opening accepts exactly what sealing gives.
 use mathlib.Core.Path.{_≡_, refl, sym, ap, ap₂, _∙_}
 use mathlib.Core.Bool.{Bool, true, false, cond}
-use mathlib.Core.List.{List, [], _∷_, _++_}
+use mathlib.Core.List.{List, _++_}
 use Prim.Native.Nat.{ℕ}
 use native.Mathlib.Omega.{arith}
 use lib.ListN.{length, take, drop}
 use Rattle.std.proofs.shelf.Lists.{take-append-drop, take-at, drop-at}
-use Rattle.std.specs.declared.option.Option.{Option}
 use Rattle.std.specs.declared.option.Option.the-variants.{Some, None}
-use Rattle.bytes.specs.Strings.{same}
 use Rattle.bytes.proofs.Sames.{same-lists, same-self}
 use Rattle.cmac.proofs.Sizes.{cmac-length}
 use Rattle.cmac.specs.Cmac.{zeros, cmac}
 use Rattle.siv.specs.Counter.{ctr}
 use Rattle.siv.specs.S2v.{gathered, lastString, s2v}
-use Rattle.siv.specs.Siv.{sivEncrypt, accepted, decryptParts, sivDecrypt}
+use Rattle.siv.specs.Siv.{accepted, decryptParts}
 use Rattle.siv.specs.Laws.{Exact}
 use Rattle.siv.proofs.Streams.{ctr-ctr}
 

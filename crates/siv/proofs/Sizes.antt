@@ -1,8 +1,8 @@
 -- Where the block ciphers keep bytes, so do S2V and the counter mode.
-use mathlib.Core.Path.{_≡_, refl, sym, ap, _∙_}
+use mathlib.Core.Path.{_≡_, refl, _∙_}
 use mathlib.Core.Bool.{Bool, true, false, cond}
-use mathlib.Core.List.{List, [], _∷_, _++_}
-use Prim.Native.Nat.{ℕ, zero, suc, _+_, _-_, _/_, _%_, _^_, _<_, _≤_}
+use mathlib.Core.List.{List, [], _∷_}
+use Prim.Native.Nat.{ℕ, zero, suc, _+_, _-_, _/_, _%_, _^_, _<_}
 use native.Mathlib.Omega.{arith}
 use lib.Bits.{bitAnd, and-le-l}
 use lib.Dec.{leb}
@@ -14,7 +14,7 @@ use Rattle.bytes.proofs.Parts.{at-byte, append-bytes, take-bytes, drop-bytes}
 use Rattle.bytes.proofs.Xors.{xors-bytes, xors-sized}
 use Rattle.cmac.specs.Blocks.{numberOf, dbl}
 use Rattle.cmac.specs.Cmac.{zeros, padding, cmac}
-use Rattle.cmac.proofs.Sizes.{bytesOf-sized, dbl-sized, padding-sized, zeros-sized, cmac-sized}
+use Rattle.cmac.proofs.Sizes.{bytesOf-sized, dbl-sized, padding-sized, cmac-sized}
 use Rattle.siv.specs.S2v.{xorend, gathered, lastString, s2v}
 use Rattle.siv.specs.Counter.{low7, cleared, inc, keystream, ctr}
 

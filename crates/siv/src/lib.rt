@@ -1,7 +1,6 @@
 //! AES-SIV, RFC 5297: sealing and opening in place, for strings and texts of any length.
-ghost use mathlib.Core.List.{List, [], _∷_, _++_};
+ghost use mathlib.Core.List.{[], _∷_, _++_};
 ghost use mathlib.Core.Path.{_≡_};
-ghost use Prim.Native.Nat.{ℕ};
 ghost use lib.ListN.{length, take, drop};
 ghost use Rattle.std.specs.Options.{isSome};
 ghost use Rattle.aes.specs.Cipher.{cipher, encrypt};

@@ -1,12 +1,12 @@
 //! S2V: the synthetic IV of an associated string and a text.
-ghost use mathlib.Core.List.{List, [], _∷_};
+ghost use mathlib.Core.List.{[], _∷_};
 ghost use mathlib.Core.Path.{_≡_};
-ghost use Prim.Native.Nat.{ℕ, _<_, _≤_};
+ghost use Prim.Native.Nat.{_<_, _≤_};
 ghost use lib.ListN.{length};
 ghost use Rattle.aes.specs.Cipher.{cipher};
 ghost use Rattle.bytes.specs.Strings.{xors};
 ghost use Rattle.cmac.specs.Blocks.{dbl};
-ghost use Rattle.cmac.specs.Cmac.{zeros, padding};
+ghost use Rattle.cmac.specs.Cmac.{padding};
 ghost use Rattle.cmac.specs.Cmac.{cmac as tagOf};
 ghost use Rattle.siv.specs.S2v.{xorend, gathered};
 ghost use Rattle.siv.specs.S2v.{s2v as synthetic};

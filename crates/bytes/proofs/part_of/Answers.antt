@@ -12,9 +12,10 @@ loop-i-holds g c = (length-replicate (g .N) 0, refl)
 pub loop-i-again : need.loop-i-again
 loop-i-again g c =
     let out : c .loop-i .i < length (c .loop-i .out) = omega (arith, c .loop-i .inv .0) in
-    let s : c .args .at + c .loop-i .i < length (c .args .s .now) = omega arith in
-    (length-set (c .loop-i .out) (c .loop-i .i) (getD (c .args .s .now) (c .args .at + c .loop-i .i) 0) ∙ c .loop-i .inv .0,
-    copy-more (c .loop-i .out) (c .args .s .now) (c .args .at) (c .loop-i .i) out s (c .loop-i .inv .1))
+    let s : c .args .at + c .loop-i .i < length (c .args .s .now) = omega arith in (
+      length-set (c .loop-i .out) (c .loop-i .i) (getD (c .args .s .now) (c .args .at + c .loop-i .i) 0) ∙ c .loop-i .inv .0,
+      copy-more (c .loop-i .out) (c .args .s .now) (c .args .at) (c .loop-i .i) out s (c .loop-i .inv .1),
+    )
 
 pub returns : need.returns
 returns g c =

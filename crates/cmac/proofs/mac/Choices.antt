@@ -1,6 +1,6 @@
 use mathlib.Core.Path.{_≡_}
 use Prim.Native.Nat.{_-_, _*_}
-use lib.ListN.{length, drop}
+use lib.ListN.{drop}
 use Rattle.aes.specs.Cipher.{cipher}
 use Rattle.cmac.specs.Cmac.{zeros, chain}
 use Rattle.cmac.proofs.mac.Given as given
