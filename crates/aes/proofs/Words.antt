@@ -46,8 +46,8 @@ word-more nk i w key x some past room long e is =
     let both : length (take (4 * i) w ++ x) ≡ 4 * (i + 1) = length-append (take (4 * i) w) x ∙ omega (arith, front, long) in
     let here : nk + (i - nk) ≡ i = omega arith in
     let next : i - nk + 1 ≡ i + 1 - nk = omega arith in
-    ap (take (4 * (i + 1))) (sym (append-assoc (take (4 * i) w) x (drop (4 * i + length x) w)))
-    ∙ take-at (take (4 * i) w ++ x) (drop (4 * i + length x) w) (4 * (i + 1)) both
+    ap (take (4 * (i + 1))) (sym (append-assoc (take (4 * i) w) x (drop (length x) (drop (4 * i) w))))
+    ∙ take-at (take (4 * i) w ++ x) (drop (length x) (drop (4 * i) w)) (4 * (i + 1)) both
     ∙ ap (λ l. take (4 * i) w ++ l) (is ∙ sym (next-front nk i w some past))
     ∙ ap (λ v. v ++ nextWord nk v i) e
     ∙ ap (λ m. expanded nk key (i - nk) ++ nextWord nk (expanded nk key (i - nk)) m) (sym here)
@@ -80,5 +80,5 @@ key-words n h = go (eqb n 16) refl
 pub key-expanded : (n : ℕ) (key w : List ℕ) → length key ≡ n → 4 * (n / 4) ≡ n → expanded (n / 4) (take (4 * (n / 4)) (over w 0 key)) (3 * (n / 4) + 28) ≡ keyExpansion key
 unfolding keyExpansion
 key-expanded n key w long whole =
-    ap (λ k. expanded (n / 4) k (3 * (n / 4) + 28)) (take-at key (drop (0 + length key) w) (4 * (n / 4)) (long ∙ sym whole))
+    ap (λ k. expanded (n / 4) k (3 * (n / 4) + 28)) (take-at key (drop (length key) w) (4 * (n / 4)) (long ∙ sym whole))
     ∙ ap (λ m. expanded (m / 4) key (3 * (m / 4) + 28)) (sym long)

@@ -2,3 +2,5 @@ pub mod Writes
 pub mod Xors
 pub mod Sames
 pub mod Parts
+pub mod Overs
+pub mod Tails

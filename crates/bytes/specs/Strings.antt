@@ -24,7 +24,7 @@ xors (x ∷ xs) (y ∷ ys) = bitXor x y ∷ xors xs ys
 
 -- xs with ys written over it, from place `at` on
 abbrev pub over : List ℕ → ℕ → List ℕ → List ℕ
-over xs at ys = take at xs ++ (ys ++ drop (at + length ys) xs)
+over xs at ys = take at xs ++ (ys ++ drop (length ys) (drop at xs))
 
 -- the n bytes from place `at` on
 abbrev pub part : ℕ → ℕ → List ℕ → List ℕ

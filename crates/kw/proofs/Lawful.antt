@@ -12,7 +12,8 @@ use Rattle.bytes.proofs.Sames.{same-lists}
 use Rattle.aes.specs.Cipher.{encrypt, decrypt}
 use Rattle.aes.specs.Laws.{Permutes}
 use Rattle.kw.specs.Wrapping.{initialValue, blocks, wrapSteps, unwrapSteps, recovered, keyWrap, keyUnwrap}
-use Rattle.kw.proofs.Steps.{two-parts, last-part, part-sized, steps-sized, unsteps-sized, unsteps-steps, steps-unsteps}
+use Rattle.bytes.proofs.Parts.{two-parts, last-part, part-sized}
+use Rattle.kw.proofs.Steps.{steps-sized, unsteps-sized, unsteps-steps, steps-unsteps}
 
 start-sized : (p : List ℕ) → Sized 32 p → Sized 40 (initialValue ++ p)
 start-sized p h = append-sized 8 32 40 initialValue p refl (refl, replicate-bytes 8 0xA6 (lit< tt)) h

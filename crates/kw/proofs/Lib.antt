@@ -1,3 +1,2 @@
-pub mod Overs
 pub mod Steps
 pub mod Lawful

@@ -8,7 +8,7 @@ use lib.Dec.{lit<, lit≤}
 use lib.ListN.{length, take, drop}
 use Rattle.std.proofs.shelf.Lists.{take-append-drop, take-all, length-drop, length-append, take-at, drop-at, append-assoc, drop-drop}
 use Rattle.bytes.specs.Strings.{Bytes, Sized, xors}
-use Rattle.bytes.proofs.Parts.{take-sized, drop-sized, append-sized}
+use Rattle.bytes.proofs.Parts.{take-sized, drop-sized, append-sized, part-sized, two-parts, last-part, middle-part}
 use Rattle.bytes.proofs.Xors.{xors-xors, xors-sized}
 use Rattle.aes.specs.Cipher.{encrypt, decrypt}
 use Rattle.aes.specs.Laws.{Permutes}
@@ -32,19 +32,6 @@ unsteps-more d t s = rw (add-one t)
 
 word-bytes : (t : ℕ) → t < 256 → Bytes (word64 t)
 word-bytes t h = (lit< tt, (lit< tt, (lit< tt, (lit< tt, (lit< tt, (lit< tt, (lit< tt, (h, tt))))))))
-
-pub part-sized : (k i m : ℕ) (s : List ℕ) → i + k ≤ m → Sized m s → Sized k (take k (drop i s))
-part-sized k i m s l h = take-sized k _ (drop i s) (omega arith) (drop-sized i m _ s refl h)
-
--- a string is its first a bytes and the k behind them
-pub two-parts : (a k : ℕ) (s : List ℕ) → length s ≡ a + k → take a s ++ take k (drop a s) ≡ s
-two-parts a k s h = ap (λ (l : List ℕ). take a s ++ l) (take-all k (drop a s) (omega (arith, length-drop a s))) ∙ take-append-drop a s
-
-pub last-part : (x y : List ℕ) (n k : ℕ) → length x ≡ n → length y ≡ k → take k (drop n (x ++ y)) ≡ y
-last-part x y n k hx hy = ap (take k) (drop-at x y n hx) ∙ take-all k y (omega arith)
-
-middle-part : (x m y : List ℕ) (n k : ℕ) → length x ≡ n → length m ≡ k → take k (drop n (x ++ (m ++ y))) ≡ m
-middle-part x m y n k hx hm = ap (take k) (drop-at x (m ++ y) n hx) ∙ take-at m y k hm
 
 module _ (key : List ℕ) (a : Permutes key) where
   step-sized : (t : ℕ) (s : List ℕ) → t < 256 → Sized 40 s → Sized 40 (wrapStep (encrypt key) t s)

@@ -17,7 +17,6 @@ use Rattle.siv.proofs.Sizes.{ctr-sized, s2v-sized}
 
 module _ (key name : List ℕ) where
   pub siv-sized : (p : List ℕ) → Sized 32 key → Bytes name → Sized 32 p → Sized 48 (siv key (name ∷ []) p)
-  unfolding siv
   siv-sized p hk hn hp =
       let e₁ = encrypt (take 16 key) in
       let e₂ = encrypt (drop 16 key) in
@@ -26,11 +25,9 @@ module _ (key name : List ℕ) where
       append-sized 16 32 48 v (ctr e₂ v p) refl hv (ctr-sized e₂ (permutes (drop 16 key) (drop-bytes 16 key (hk .1)) .stays) 32 v p hv hp)
 
   pub open-siv : (p : List ℕ) → openSiv key (name ∷ []) (siv key (name ∷ []) p) ≡ Some p
-  unfolding siv openSiv
   open-siv p = exact (encrypt (take 16 key)) (encrypt (drop 16 key)) (encrypt-length (take 16 key)) .opens (name ∷ []) p
 
   pub open-only : (z p : List ℕ) → Sized 32 key → Sized 48 z → openSiv key (name ∷ []) z ≡ Some p → Sized 32 p × (siv key (name ∷ []) p ≡ z)
-  unfolding siv openSiv
   open-only z p hk hz o =
       let e₁ = encrypt (take 16 key) in
       let e₂ = encrypt (drop 16 key) in

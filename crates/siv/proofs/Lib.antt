@@ -1,4 +1,3 @@
-pub mod Tails
 pub mod Streams
 pub mod Vectors
 pub mod Opened

@@ -8,7 +8,7 @@ use Rattle.std.proofs.shelf.Lists.{append-assoc, drop-drop, drop-at, length-tak
 use Rattle.bytes.specs.Strings.{xors}
 use Rattle.bytes.proofs.Xors.{xors-append, xors-nil, xors-length, xors-xors}
 use Rattle.siv.specs.Counter.{cleared, inc, keystream, ctr}
-use Rattle.siv.proofs.Tails.{take-past}
+use Rattle.bytes.proofs.Tails.{take-past}
 
 -- the text as it will be, where i of n blocks are done and q is the counter
 abbrev pub to-come : (List ℕ → List ℕ) → ℕ → ℕ → List ℕ → List ℕ → List ℕ

@@ -11,7 +11,7 @@ use Rattle.bytes.specs.Strings.{xors}
 use Rattle.bytes.proofs.Xors.{xors-xors, xors-length}
 use Rattle.cmac.specs.Blocks.{dbl}
 use Rattle.cmac.specs.Cmac.{zeros, padding, cmac}
-use Rattle.siv.proofs.Tails.{tail-added}
+use Rattle.bytes.proofs.Tails.{tail-added}
 use Rattle.siv.specs.S2v.{xorend, gathered, lastString, s2v}
 
 module _ (e : List ℕ → List ℕ) (strings : List (List ℕ)) (text d : List ℕ) (is : d ≡ gathered e (cmac e zeros) strings) where

@@ -31,8 +31,8 @@ textOr c (Some p) = p
 textOr c None = c
 
 -- AES-SIV: the key's first half is for S2V, its second for the counter mode
-unfoldable pub siv : List ℕ → List (List ℕ) → List ℕ → List ℕ
+abbrev pub siv : List ℕ → List (List ℕ) → List ℕ → List ℕ
 siv key strings p = sivEncrypt (encrypt (take 16 key)) (encrypt (drop 16 key)) strings p
 
-unfoldable pub openSiv : List ℕ → List (List ℕ) → List ℕ → Option (List ℕ)
+abbrev pub openSiv : List ℕ → List (List ℕ) → List ℕ → Option (List ℕ)
 openSiv key strings z = sivDecrypt (encrypt (take 16 key)) (encrypt (drop 16 key)) strings z

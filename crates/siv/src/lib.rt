@@ -74,8 +74,9 @@ fn expand_halves(key: [u8; 32], w1: &mut [u8], w2: &mut [u8])
     key_expansion(part_of::<16>(&key, 16), w2);
 }
 
-/// Seals the text in place under the key, whose schedules are left in `w1` and `w2`.
-fn seal_under(
+/// Seals the text in place under the key: returns V, and the text becomes C. The schedules of the key's halves are left
+/// in `w1` and `w2`.
+pub fn seal_under(
     key: [u8; 32],
     string: &[u8],
     text: &mut [u8],
@@ -84,7 +85,7 @@ fn seal_under(
 ) -> [u8; 16]
     requires room1 { ⌜ length (now w1) ≡ 176 ⌝ }
     requires room2 { ⌜ length (now w2) ≡ 176 ⌝ }
-    ensures { λ r. ⌜ r ++ now (text .exit) ≡ sivEncrypt (encrypt (take 16 key)) (encrypt (drop 16 key)) (now (string .entry) ∷ []) (now (text .entry)) ⌝ }
+    ensures { λ r. ⌜ r ++ now (text .exit) ≡ siv key (now (string .entry) ∷ []) (now (text .entry)) ⌝ }
 {
     expand_halves(key, w1, w2);
     seal_in_place(w1, w2, string, text)

@@ -1,4 +1,13 @@
 //! The commands of a line.
+ghost use mathlib.Core.List.{List, [], _∷_, _++_};
+ghost use mathlib.Core.Path.{_≡_};
+ghost use Prim.Native.Nat.{ℕ};
+ghost use Rattle.std.specs.Vec.{made};
+ghost use Rattle.std.specs.declared.option.Option.the-variants.{Some};
+ghost use Rattle.aes.specs.Cipher.{encrypt, decrypt};
+ghost use Rattle.cmac.specs.Cmac.{cmac as cmacOf};
+ghost use Rattle.siv.specs.Siv.{siv as sivOf};
+ghost use Rattle.wraptool.specs.Answers.{keyBytes, Shows, sized};
 use crate::bad::Bad;
 use crate::bad::BadFromAllocError;
 use crate::bad::BadFromHexFault;
@@ -13,7 +22,7 @@ use kw::KeyWrap;
 use kw::Rfc3394;
 use siv::Rfc5297;
 use siv::Siv;
-use siv::seal_in_place;
+use siv::seal_under;
 use std::alloc::Global;
 use wrap::Wrap;
 
@@ -79,42 +88,50 @@ fn aes_key_of(heap: Global, word: &str) -> Result<AesKey, Bad> {
     }
 }
 
-fn encrypted(key: AesKey, block: [u8; 16]) -> [u8; 16] {
+fn encrypted(key: AesKey, block: [u8; 16]) -> [u8; 16]
+    ensures { λ r. ⌜ r ≡ encrypt (keyBytes key) block ⌝ }
+{
     match key {
         AesKey::Short(key) => encrypt_block(key, block),
         AesKey::Long(key) => encrypt_block(key, block),
     }
 }
 
-fn decrypted(key: AesKey, block: [u8; 16]) -> [u8; 16] {
+fn decrypted(key: AesKey, block: [u8; 16]) -> [u8; 16]
+    ensures { λ r. ⌜ r ≡ decrypt (keyBytes key) block ⌝ }
+{
     match key {
         AesKey::Short(key) => decrypt_block(key, block),
         AesKey::Long(key) => decrypt_block(key, block),
     }
 }
 
-fn tag(key: [u8; 16], message: &[u8]) -> [u8; 16] {
+fn tag(key: [u8; 16], message: &[u8]) -> [u8; 16]
+    ensures { λ r. ⌜ r ≡ cmacOf (encrypt key) (now (message .entry)) ⌝ }
+{
     let mut w = [0u8; 176];
     key_expansion(key, &mut w);
     mac(&w, message)
 }
 
 // The text becomes the encrypted text; the synthetic IV is answered.
-fn synthetic(key: [u8; 32], string: &[u8], text: &mut [u8]) -> [u8; 16] {
+fn synthetic(key: [u8; 32], string: &[u8], text: &mut [u8]) -> [u8; 16]
+    ensures { λ r. ⌜ r ++ now (text .exit) ≡ sivOf key (now (string .entry) ∷ []) (now (text .entry)) ⌝ }
+{
     let mut w1 = [0u8; 176];
     let mut w2 = [0u8; 176];
-    key_expansion(part_of::<16>(&key, 0), &mut w1);
-    key_expansion(part_of::<16>(&key, 16), &mut w2);
-    seal_in_place(&w1, &w2, string, text)
+    seal_under(key, string, text, &mut w1, &mut w2)
 }
 
-fn sealed<W: Wrap>(
+fn seal_with<W: Wrap>(
     heap: Global,
     wrap: &W,
     key: [u8; 32],
     name: [u8; 10],
     content: [u8; 32],
-) -> Result<Answer, Bad> {
+) -> Result<Answer, Bad>
+    ensures { λ r. ⌜ made r (λ a. Shows a (Some (W·Wrap .sealed key name content))) ⌝ }
+{
     let mut out = [0u8; 64];
     let mut work = [0u8; 512];
     if let Err(fault) = wrap.seal(key, name, content, &mut out, &mut work) {
@@ -124,13 +141,15 @@ fn sealed<W: Wrap>(
     Ok(Answer::Bytes(out[0..n].to_vec(heap)?))
 }
 
-fn opened<W: Wrap>(
+fn open_with<W: Wrap>(
     heap: Global,
     wrap: &W,
     key: [u8; 32],
     name: [u8; 10],
     bytes: &[u8],
-) -> Result<Answer, Bad> {
+) -> Result<Answer, Bad>
+    ensures { λ r. ⌜ made r (λ a. Shows a (sized (W·Wrap .wrapLength) (now (bytes .entry)) (W·Wrap .opened key name (now (bytes .entry))))) ⌝ }
+{
     let mut place = [0u8; 32];
     let mut work = [0u8; 512];
     if let Err(fault) = wrap.open(key, name, bytes, &mut place, &mut work) {
@@ -177,8 +196,8 @@ fn seal_line(
     let name = array_of(heap, name, Part::Name)?;
     let content = array_of(heap, content, Part::Content)?;
     match kind {
-        Kind::Rfc3394 => sealed(heap, &KeyWrap, key, name, content),
-        Kind::Rfc5297 => sealed(heap, &Siv, key, name, content),
+        Kind::Rfc3394 => seal_with(heap, &KeyWrap, key, name, content),
+        Kind::Rfc5297 => seal_with(heap, &Siv, key, name, content),
     }
 }
 
@@ -188,13 +207,13 @@ fn open_line(heap: Global, kind: &str, key: &str, name: &str, bytes: &str) -> Re
     let name = array_of(heap, name, Part::Name)?;
     let bytes = bytes_of(heap, bytes)?;
     match kind {
-        Kind::Rfc3394 => opened(heap, &KeyWrap, key, name, bytes.as_slice()),
-        Kind::Rfc5297 => opened(heap, &Siv, key, name, bytes.as_slice()),
+        Kind::Rfc3394 => open_with(heap, &KeyWrap, key, name, bytes.as_slice()),
+        Kind::Rfc5297 => open_with(heap, &Siv, key, name, bytes.as_slice()),
     }
 }
 
 /// Carries out a command on the words that follow it.
-pub fn carry_out(heap: Global, command: &str, parts: &[&str]) -> Result<Answer, Bad> {
+pub(crate) fn carry_out(heap: Global, command: &str, parts: &[&str]) -> Result<Answer, Bad> {
     match (command, parts) {
         ("encrypt", [key, block]) => aes_line(heap, Direction::Encrypt, key, block),
         ("decrypt", [key, block]) => aes_line(heap, Direction::Decrypt, key, block),

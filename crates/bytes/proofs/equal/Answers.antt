@@ -1,4 +1,6 @@
-use Prim.Native.Nat.{_<_, _≤_}
+use mathlib.Core.Path.{ap, _∙_}
+use Prim.Native.Nat.{ℕ, _<_, _≤_}
+use lib.Dec.{eqb}
 use native.Mathlib.Omega.{arith}
 use lib.ListN.{length}
 use Rattle.bytes.proofs.Sames.{same-more, same-all, same-uneven}
@@ -11,7 +13,8 @@ pub loop-i-again : need.loop-i-again
 loop-i-again c =
     let a : c .loop-i .i < length (c .args .a .now) = omega arith in
     let b : c .loop-i .i < length (c .args .b .now) = omega arith in
-    same-more (c .args .a .now) (c .args .b .now) (c .loop-i .i) (c .loop-i .diff) a b (c .loop-i .inv)
+    ap (λ (d : ℕ). eqb d 0) (c .differences-diff .ensures)
+    ∙ same-more (c .args .a .now) (c .args .b .now) (c .loop-i .i) (c .loop-i .diff) a b (c .loop-i .inv)
 
 pub returns : need.returns
 returns c =

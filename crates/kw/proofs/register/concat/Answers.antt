@@ -2,7 +2,7 @@ use mathlib.Core.Path.{_≡_}
 use lib.ListN.{length, replicate}
 use Prim.Native.Nat.{_+_}
 use borrow.Author.Needs.{needs}
-use Rattle.kw.proofs.Overs.{written-two}
+use Rattle.bytes.proofs.Overs.{written-two}
 use Rattle.kw.proofs.register.concat.Needs as need
 
 pub returns : need.returns

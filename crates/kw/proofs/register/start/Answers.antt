@@ -3,7 +3,7 @@ use mathlib.Core.List.{List, _++_}
 use Prim.Native.Nat.{ℕ, _+_}
 use lib.ListN.{length}
 use borrow.Author.Needs.{needs}
-use Rattle.kw.proofs.Overs.{written-two}
+use Rattle.bytes.proofs.Overs.{written-two}
 use Rattle.kw.proofs.register.start.Needs as need
 
 pub returns : need.returns

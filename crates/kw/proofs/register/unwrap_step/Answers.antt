@@ -6,7 +6,7 @@ use borrow.Author.Needs.{needs}
 use Rattle.bytes.specs.Strings.{xors}
 use Rattle.aes.specs.Cipher.{invCipher}
 use Rattle.kw.specs.Wrapping.{word64, unwrapStep}
-use Rattle.kw.proofs.Overs.{written-two}
+use Rattle.bytes.proofs.Overs.{written-two}
 use Rattle.kw.proofs.register.unwrap_step.Needs as need
 
 pub returns : need.returns

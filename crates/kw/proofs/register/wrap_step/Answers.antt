@@ -6,7 +6,7 @@ use borrow.Author.Needs.{needs}
 use Rattle.bytes.specs.Strings.{xors}
 use Rattle.aes.specs.Cipher.{cipher}
 use Rattle.kw.specs.Wrapping.{blocks, msb64, lsb64, word64, wrapStep}
-use Rattle.kw.proofs.Overs.{written-three}
+use Rattle.bytes.proofs.Overs.{written-three}
 use Rattle.kw.proofs.register.wrap_step.Needs as need
 
 pub returns : need.returns

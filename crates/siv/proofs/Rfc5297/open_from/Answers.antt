@@ -9,7 +9,6 @@ use Rattle.siv.specs.Siv.{decryptParts, openSiv}
 use Rattle.siv.proofs.Rfc5297.open_from.Needs as need
 
 pub returns : need.returns
-unfolding openSiv
 returns c =
     let key = c .args .key in
     let z = c .args .bytes .now in

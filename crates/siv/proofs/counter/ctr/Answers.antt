@@ -8,7 +8,7 @@ use Rattle.aes.specs.Cipher.{cipher}
 use Rattle.bytes.specs.Strings.{xors}
 use Rattle.siv.specs.Counter.{ctr}
 use Rattle.siv.proofs.Streams.{to-come, stream-none, stream-more, stream-all, ctr-from, ctr-ctr}
-use Rattle.siv.proofs.Tails.{tail-added}
+use Rattle.bytes.proofs.Tails.{tail-added}
 use Rattle.siv.proofs.counter.ctr.Needs as need
 
 pub loop-i-holds : need.loop-i-holds

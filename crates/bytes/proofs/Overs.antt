@@ -5,13 +5,13 @@ use Prim.Native.Nat.{ℕ, _+_, _≤_}
 use native.Mathlib.Omega.{arith}
 use lib.ListN.{length, drop}
 use Rattle.std.proofs.shelf.Lists.{take-at, drop-at, drop-drop, drop-all, length-append}
 use Rattle.bytes.specs.Strings.{over}
 
 -- P stands at the front of s, and y is written behind it
 pub over-next : (P s y : List ℕ) (at : ℕ) → length P ≡ at → over (P ++ drop at s) at y ≡ (P ++ y) ++ drop (at + length y) s
 over-next P s y at h =
     ap₂ (λ (p q : List ℕ). p ++ (y ++ q)) (take-at P (drop at s) at h)
-    (sym (drop-drop (length y) at (P ++ drop at s)) ∙ ap (drop (length y)) (drop-at P (drop at s) at h) ∙ drop-drop (length y) at s)
+    (ap (drop (length y)) (drop-at P (drop at s) at h) ∙ drop-drop (length y) at s)
     ∙ sym (append-assoc P y (drop (at + length y) s))
 
 -- x is written at the front of s, then y behind it, as far as s reaches

@@ -1,12 +1,12 @@
 -- What is left of a string whose tail is written.
-use mathlib.Core.Path.{_≡_, refl, ap, ap₂, _∙_}
+use mathlib.Core.Path.{_≡_, refl, ap, _∙_}
 use mathlib.Core.List.{List, [], _∷_, _++_, append-nil}
 use Prim.Native.Nat.{ℕ, suc, _+_, _-_, _≤_}
 use native.Mathlib.Omega.{arith}
 use lib.ListN.{length, take, drop}
 use borrow.Rule.Slice.PartMut.{putMid}
-use Rattle.std.proofs.shelf.Lists.{take-rest, take-at, drop-all, length-append, length-drop}
-use Rattle.bytes.specs.Strings.{xors, over}
+use Rattle.std.proofs.shelf.Lists.{take-rest, drop-all, length-drop}
+use Rattle.bytes.specs.Strings.{xors}
 
 -- after a write to s[a..]
 pub tail-written : {X : Type 0} (a : ℕ) (xs ys : List X) → putMid a (length xs - a) xs ys ≡ take a xs ++ ys
@@ -23,10 +23,3 @@ take-past [] ys n m h = let e : n + m ≡ m = omega arith in ap (λ k. take k ys
 take-past (x ∷ xs) ys n m h =
     let e : n + m ≡ suc (length xs + m) = omega arith in
     ap (λ k. take k (x ∷ (xs ++ ys))) e ∙ ap (λ l. x ∷ l) (take-past xs ys (length xs) m refl)
-
--- two strings that are written one after the other over the whole of a third
-pub both-written : (out v t : List ℕ) (n : ℕ) → length v ≡ n → length out ≡ n + length t → over (over out 0 v) n t ≡ v ++ t
-both-written out v t n h l =
-    let rest = drop (0 + length v) out in
-    let all : length (v ++ drop (0 + length v) out) ≤ n + length t = omega (arith, length-append v (drop (0 + length v) out), length-drop (0 + length v) out) in
-    ap₂ (λ (a b : List ℕ). a ++ (t ++ b)) (take-at v rest n h) (drop-all (n + length t) (v ++ rest) all) ∙ ap (λ (u : List ℕ). v ++ u) (append-nil t)
