@@ -263,7 +263,7 @@ const INV_SBOX: [u8; 256] = [
 ];
 
 /// The entry of a byte.
-pub fn inv_s_box_entry(b: u8) -> u8
+pub(crate) fn inv_s_box_entry(b: u8) -> u8
     ensures { λ r. ⌜ r ≡ getD invSBoxTable b 0 ⌝ }
 {
     INV_SBOX[b as usize]

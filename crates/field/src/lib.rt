@@ -24,8 +24,8 @@ pub fn inv_sub_byte(b: u8) -> u8
     inv_s_box_entry(b)
 }
 
-/// The product by x.
-pub fn xtimes(b: u8) -> u8
+// The product by x.
+fn xtimes(b: u8) -> u8
     ensures { λ r. ⌜ r ≡ xTimes b ⌝ }
 {
     if b < 128 { b << 1 } else { (b << 1) ^ 0x1b }
@@ -37,8 +37,8 @@ fn scale(bit: u8, k: u8) -> u8
     if bit == 0 { 0 } else { k }
 }
 
-/// The product of the field by a polynomial `k` of degree at most three.
-pub fn multiply(k: u8, b: u8) -> u8
+// The product of the field by a polynomial `k` of degree at most three.
+fn multiply(k: u8, b: u8) -> u8
     requires { ⌜ k < 16 ⌝ }
     ensures { λ r. ⌜ r ≡ product k b ⌝ }
 {

@@ -263,7 +263,7 @@ const SBOX: [u8; 256] = [
 ];
 
 /// The entry of a byte.
-pub fn s_box_entry(b: u8) -> u8
+pub(crate) fn s_box_entry(b: u8) -> u8
     ensures { λ r. ⌜ r ≡ getD sBoxTable b 0 ⌝ }
 {
     SBOX[b as usize]

@@ -17,11 +17,20 @@ pub enum Part {
 pub enum Bad {
     NotText,
     UnknownCommand,
-    WordCount { wanted: usize },
+    WordCount {
+        wanted: usize,
+    },
     UnknownKind,
     NotADigit,
     OddCount,
-    Length { part: Part, bytes: usize },
+    Length {
+        part: Part,
+        bytes: usize,
+        wanted: usize,
+    },
+    AesKeyLength {
+        bytes: usize,
+    },
     NoMemory,
 }
 
@@ -61,7 +70,12 @@ pub impl fmt::Display for Bad as BadDisplay {
             Bad::UnknownKind => write!(f, "unknown kind of wrap"),
             Bad::NotADigit => write!(f, "not a hexadecimal digit"),
             Bad::OddCount => write!(f, "odd number of digits"),
-            Bad::Length { part, bytes } => write!(f, "{part} of {bytes} bytes"),
+            Bad::Length {
+                part,
+                bytes,
+                wanted,
+            } => write!(f, "{part} of {bytes} bytes, {wanted} wanted"),
+            Bad::AesKeyLength { bytes } => write!(f, "key of {bytes} bytes, 16 or 32 wanted"),
             Bad::NoMemory => write!(f, "no memory for it"),
         }
     }

@@ -48,6 +48,7 @@ fn array_of<const N: usize>(heap: Global, word: &str, part: Part) -> Result<[u8;
         return Err(Bad::Length {
             part,
             bytes: bytes.len(),
+            wanted: N,
         });
     }
     Ok(part_of::<N>(bytes.as_slice(), 0))
@@ -79,12 +80,12 @@ enum AesKey {
     Long([u8; 32]),
 }
 
-// A key of 32 digits is a short one; any other is a long one or none.
 fn aes_key_of(heap: Global, word: &str) -> Result<AesKey, Bad> {
-    if word.len() == 32 {
-        Ok(AesKey::Short(array_of(heap, word, Part::Key)?))
-    } else {
-        Ok(AesKey::Long(array_of(heap, word, Part::Key)?))
+    let bytes = bytes_of(heap, word)?;
+    match bytes.len() {
+        16 => Ok(AesKey::Short(part_of(bytes.as_slice(), 0))),
+        32 => Ok(AesKey::Long(part_of(bytes.as_slice(), 0))),
+        n => Err(Bad::AesKeyLength { bytes: n }),
     }
 }
 
