@@ -7,12 +7,11 @@ use native.Mathlib.Omega.{arith}
 use lib.Dec.{lit<, lit≤}
 use Rattle.std.specs.declared.option.Option.the-variants.{Some, None}
 use Rattle.bytes.specs.Strings.{Sized, same}
-use Rattle.bytes.proofs.Parts.{append-sized, replicate-bytes}
+use Rattle.bytes.proofs.Parts.{append-sized, replicate-bytes, two-parts, last-part, part-sized}
 use Rattle.bytes.proofs.Sames.{same-lists}
 use Rattle.aes.specs.Cipher.{encrypt, decrypt}
 use Rattle.aes.specs.Laws.{Permutes}
 use Rattle.kw.specs.Wrapping.{initialValue, blocks, wrapSteps, unwrapSteps, recovered, keyWrap, keyUnwrap}
-use Rattle.bytes.proofs.Parts.{two-parts, last-part, part-sized}
 use Rattle.kw.proofs.Steps.{steps-sized, unsteps-sized, unsteps-steps, steps-unsteps}
 
 start-sized : (p : List ℕ) → Sized 32 p → Sized 40 (initialValue ++ p)

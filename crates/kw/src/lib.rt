@@ -88,3 +88,42 @@ pub impl Wrap for KeyWrap as Rfc3394 {
         unwrap_key(key, register, schedule)
     }
 }
+
+#[cfg(test)]
+mod tests {
+    use super::*;
+    use std::test::*;
+    use wrap::WrapFault;
+
+    #[test]
+    fn too_few_working_bytes() -> Result<(), Fail> {
+        let mut out = [7u8; 39];
+        let mut work = [5u8; 511];
+        let refused = KeyWrap.seal([1; 32], [2; 10], [3; 32], &mut out, &mut work);
+        check(matches!(refused, Err(WrapFault::ShortWorking)))?;
+        check(out == [7u8; 39] && work == [5u8; 511])
+    }
+
+    #[test]
+    fn buffer_too_short() -> Result<(), Fail> {
+        let mut out = [7u8; 39];
+        let mut work = [5u8; 600];
+        let refused = KeyWrap.seal([1; 32], [2; 10], [3; 32], &mut out, &mut work);
+        check(matches!(refused, Err(WrapFault::ShortBuffer { needed: 40 })))?;
+        check(out == [7u8; 39] && work == [0u8; 600])
+    }
+
+    #[test]
+    fn opens_what_it_sealed() -> Result<(), Fail> {
+        let mut out = [7u8; 41];
+        let mut work = [5u8; 512];
+        let sealed = KeyWrap.seal([1; 32], [2; 10], [3; 32], &mut out, &mut work);
+        check(sealed.is_ok() && out[40] == 7 && work == [0u8; 512])?;
+        let mut place = [9u8; 32];
+        let opened = KeyWrap.open([1; 32], [4; 10], &out[0..40], &mut place, &mut work);
+        check(opened.is_ok() && place == [3u8; 32])?;
+        let refused = KeyWrap.open([1; 32], [2; 10], &out, &mut place, &mut work);
+        check(matches!(refused, Err(WrapFault::DoesNotOpen)))?;
+        check(place == [3u8; 32] && work == [0u8; 512])
+    }
+}
