@@ -56,7 +56,7 @@ fn differences(so_far: u8, x: u8, y: u8) -> u8
     so_far | (x ^ y)
 }
 
-/// Are the two strings the same? The time that it takes depends on their lengths alone.
+/// Are the two strings the same? Of two as long as each other it looks at every byte, wherever they differ.
 pub fn equal(a: &[u8], b: &[u8]) -> bool
     ensures { λ r. ⌜ r ≡ same (now (a .entry)) (now (b .entry)) ⌝ }
 {

@@ -1,7 +1,7 @@
 -- Each transformation keeps a state a state, and is undone by its inverse.
 use mathlib.Core.Path.{_≡_, refl, sym, ap, ap₂, _∙_}
 use mathlib.Core.List.{List, [], _∷_, map}
-use Prim.Native.Nat.{ℕ, suc, _<_}
+use Prim.Native.Nat.{ℕ, suc, _+_, _-_, _*_, _/_, _%_, _<_}
 use lib.ListN.{length, getD}
 use Rattle.std.proofs.shelf.Lists.{length-map}
 use Rattle.bytes.specs.Strings.{Bytes, Sized}
@@ -9,7 +9,7 @@ use Rattle.bytes.proofs.Parts.{at-byte}
 use Rattle.field.specs.Field.{sBox, invSBox, mixByte, invMixByte}
 use Rattle.field.proofs.Boxes.{inv-s-box-undoes, s-box-undoes, s-box-byte, inv-s-box-byte}
 use Rattle.field.proofs.Columns.{inv-mix-mix, mix-inv-mix, mix-byte, inv-mix-byte}
-use Rattle.round.specs.State.{subBytes, invSubBytes, places, shiftRows, invShiftRows, columns, mixColumns, invMixColumns}
+use Rattle.round.specs.State.{subBytes, invSubBytes, everyPlace, moved, shiftRows, invShiftRows, columns, mixColumns, invMixColumns}
 use Rattle.round.proofs.Sixteen.{sixteen}
 
 map-bytes : (f : ℕ → ℕ) → ((b : ℕ) → b < 256 → f b < 256) → (s : List ℕ) → Bytes s → Bytes (map f s)
@@ -32,9 +32,12 @@ sub-sized n s h = (length-map s sBox ∙ h .0, map-bytes sBox s-box-byte s (h .1
 pub inv-sub-sized : (n : ℕ) (s : List ℕ) → Sized n s → Sized n (invSubBytes s)
 inv-sub-sized n s h = (length-map s invSBox ∙ h .0, map-bytes invSBox inv-s-box-byte s (h .1))
 
-places-bytes : (is s : List ℕ) → Bytes s → Bytes (places is s)
-places-bytes [] s h = tt
-places-bytes (i ∷ is) s h = (at-byte s i h, places-bytes is s h)
+moved-bytes : (from : ℕ → ℕ) (is s : List ℕ) → Bytes s → Bytes (map (λ i. getD s (from i) 0) is)
+moved-bytes from [] s h = tt
+moved-bytes from (i ∷ is) s h = (at-byte s (from i) h, moved-bytes from is s h)
+
+moved-sized : (from : ℕ → ℕ) (s : List ℕ) → Bytes s → Sized 16 (moved from s)
+moved-sized from s h = (refl, moved-bytes from everyPlace s h)
 
 pub shift-undo : (s : List ℕ) → length s ≡ 16 → invShiftRows (shiftRows s) ≡ s
 unfolding shiftRows invShiftRows
@@ -50,11 +53,11 @@ shift-length s = refl
 
 pub shift-sized : (s : List ℕ) → Bytes s → Sized 16 (shiftRows s)
 unfolding shiftRows
-shift-sized s h = (refl, places-bytes (0 ∷ 5 ∷ 10 ∷ 15 ∷ 4 ∷ 9 ∷ 14 ∷ 3 ∷ 8 ∷ 13 ∷ 2 ∷ 7 ∷ 12 ∷ 1 ∷ 6 ∷ 11 ∷ []) s h)
+shift-sized s h = moved-sized (λ i. i % 4 + 4 * ((i / 4 + i % 4) % 4)) s h
 
 pub inv-shift-sized : (s : List ℕ) → Bytes s → Sized 16 (invShiftRows s)
 unfolding invShiftRows
-inv-shift-sized s h = (refl, places-bytes (0 ∷ 13 ∷ 10 ∷ 7 ∷ 4 ∷ 1 ∷ 14 ∷ 11 ∷ 8 ∷ 5 ∷ 2 ∷ 15 ∷ 12 ∷ 9 ∷ 6 ∷ 3 ∷ []) s h)
+inv-shift-sized s h = moved-sized (λ i. i % 4 + 4 * ((i / 4 + 4 - i % 4) % 4)) s h
 
 abbrev OfColumn : Type 0
 OfColumn = ℕ → ℕ → ℕ → ℕ → ℕ

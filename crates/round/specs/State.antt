@@ -1,6 +1,6 @@
 -- The transformations of the state of FIPS 197: a state is the list of its 16 bytes, column after column.
 use mathlib.Core.List.{List, [], _∷_, map}
-use Prim.Native.Nat.{ℕ}
+use Prim.Native.Nat.{ℕ, _+_, _-_, _*_, _/_, _%_}
 use lib.ListN.{getD}
 use Rattle.bytes.specs.Strings.{xors}
 use Rattle.field.specs.Field.{sBox, invSBox, mixByte, invMixByte}
@@ -11,16 +11,21 @@ subBytes s = map sBox s
 abbrev pub invSubBytes : List ℕ → List ℕ
 invSubBytes s = map invSBox s
 
--- the bytes that stand in s at the places of a list
-abbrev pub places : List ℕ → List ℕ → List ℕ
-places is s = map (λ i. getD s i 0) is
+-- the places of a state; place i is in row i % 4 and column i / 4
+abbrev pub everyPlace : List ℕ
+everyPlace = 0 ∷ 1 ∷ 2 ∷ 3 ∷ 4 ∷ 5 ∷ 6 ∷ 7 ∷ 8 ∷ 9 ∷ 10 ∷ 11 ∷ 12 ∷ 13 ∷ 14 ∷ 15 ∷ []
 
--- row r, the places r, 4 + r, 8 + r and 12 + r, turned left by r
+-- the state that has at each place the byte that stands in s at another
+abbrev pub moved : (ℕ → ℕ) → List ℕ → List ℕ
+moved from s = map (λ i. getD s (from i) 0) everyPlace
+
+-- s'[r, c] = s[r, (c + r) mod 4]
 unfoldable pub shiftRows : List ℕ → List ℕ
-shiftRows s = places (0 ∷ 5 ∷ 10 ∷ 15 ∷ 4 ∷ 9 ∷ 14 ∷ 3 ∷ 8 ∷ 13 ∷ 2 ∷ 7 ∷ 12 ∷ 1 ∷ 6 ∷ 11 ∷ []) s
+shiftRows s = moved (λ i. i % 4 + 4 * ((i / 4 + i % 4) % 4)) s
 
+-- s'[r, c] = s[r, (c - r) mod 4]
 unfoldable pub invShiftRows : List ℕ → List ℕ
-invShiftRows s = places (0 ∷ 13 ∷ 10 ∷ 7 ∷ 4 ∷ 1 ∷ 14 ∷ 11 ∷ 8 ∷ 5 ∷ 2 ∷ 15 ∷ 12 ∷ 9 ∷ 6 ∷ 3 ∷ []) s
+invShiftRows s = moved (λ i. i % 4 + 4 * ((i / 4 + 4 - i % 4) % 4)) s
 
 -- f of each byte of a column, with the three that follow it round the column; one column of four after the other
 abbrev pub columns : (ℕ → ℕ → ℕ → ℕ → ℕ) → List ℕ → List ℕ
