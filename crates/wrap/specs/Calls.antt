@@ -7,7 +7,8 @@ use lib.ListN.{length, drop, replicate}
 use Rattle.std.specs.Options.{isSome}
 use Rattle.std.specs.declared.option.Option.{Option}
 use Rattle.std.specs.declared.option.Option.the-variants.{Some, None}
-use Rattle.wrap.specs.Refusals.{Verdict, done, refused, ifDone}
+use Rattle.std.specs.declared.result.Result.the-variants.{Ok}
+use Rattle.refusal.specs.Refusals.{Verdict, refused, ifDone}
 
 -- are there too few working bytes?
 abbrev pub tight : List ℕ → Bool
@@ -18,20 +19,20 @@ abbrev pub wiped : List ℕ → List ℕ
 wiped work = cond (tight work) work (replicate (length work) 0)
 
 -- what a sealing to `out` tells, by a wrap that writes len bytes
-abbrev pub sealVerdict : ℕ → List ℕ → List ℕ → Verdict
+abbrev pub sealVerdict : ℕ → List ℕ → List ℕ → Verdict (Unit {0})
 sealVerdict len out work =
     cond (tight work) (refused 9 [])
-    (cond (ltb (length out) len) (refused 12 (len ∷ [])) done)
+    (cond (ltb (length out) len) (refused 12 (len ∷ [])) (Ok tt))
 
 -- the buffer after a sealing: the sealed bytes at its front, the rest as it was
 abbrev pub sealLeaves : ℕ → List ℕ → List ℕ → List ℕ → List ℕ
 sealLeaves len sealed out work = ifDone (sealVerdict len out work) (sealed ++ drop len out) out
 
 -- what an opening of `bytes` tells, by a wrap that writes len bytes; `content` is what they open to
-abbrev pub openVerdict : ℕ → List ℕ → Option (List ℕ) → List ℕ → Verdict
+abbrev pub openVerdict : ℕ → List ℕ → Option (List ℕ) → List ℕ → Verdict (Unit {0})
 openVerdict len bytes content work =
     cond (tight work) (refused 9 [])
-    (cond (eqb (length bytes) len && isSome content) done (refused 18 []))
+    (cond (eqb (length bytes) len && isSome content) (Ok tt) (refused 18 []))
 
 -- the content if there is one, else what is held
 abbrev pub contentOr : List ℕ → Option (List ℕ) → List ℕ

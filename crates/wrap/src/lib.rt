@@ -6,7 +6,8 @@ ghost use lib.ListN.{length};
 ghost use Rattle.std.specs.declared.option.Option.{Option};
 ghost use Rattle.std.specs.declared.option.Option.the-variants.{Some};
 ghost use Rattle.bytes.specs.Strings.{Sized};
-ghost use Rattle.wrap.specs.Refusals.{told};
+ghost use Rattle.refusal.specs.Refusals.{told};
+ghost use Rattle.wrap.specs.Refusals.{refusalOf};
 ghost use Rattle.wrap.specs.Calls.{wiped, sealVerdict, sealLeaves, openVerdict, openLeaves};
 
 mod fault;
@@ -86,7 +87,7 @@ pub trait Wrap {
         out: &mut [u8],
         work: &mut [u8],
     ) -> Result<(), WrapFault>
-        ensures answer { λ r. ⌜ told r ≡ sealVerdict wrapLength (now (out .entry)) (now (work .entry)) ⌝ }
+        ensures answer { λ r. ⌜ told refusalOf r ≡ sealVerdict wrapLength (now (out .entry)) (now (work .entry)) ⌝ }
         ensures written { λ _. ⌜ now (out .exit) ≡ sealLeaves wrapLength (sealed key name content) (now (out .entry)) (now (work .entry)) ⌝ }
         ensures cleared { λ _. ⌜ now (work .exit) ≡ wiped (now (work .entry)) ⌝ }
     {
@@ -111,7 +112,7 @@ pub trait Wrap {
         place: &mut [u8; 32],
         work: &mut [u8],
     ) -> Result<(), WrapFault>
-        ensures answer { λ r. ⌜ told r ≡ openVerdict wrapLength (now (bytes .entry)) (opened key name (now (bytes .entry))) (now (work .entry)) ⌝ }
+        ensures answer { λ r. ⌜ told refusalOf r ≡ openVerdict wrapLength (now (bytes .entry)) (opened key name (now (bytes .entry))) (now (work .entry)) ⌝ }
         ensures written { λ _. ⌜ now (place .exit) ≡ openLeaves wrapLength (now (bytes .entry)) (opened key name (now (bytes .entry))) (now (place .entry)) (now (work .entry)) ⌝ }
         ensures cleared { λ _. ⌜ now (work .exit) ≡ wiped (now (work .entry)) ⌝ }
     {
