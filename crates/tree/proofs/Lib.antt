@@ -1,0 +1,4 @@
+pub mod Members
+pub mod Halvings
+pub mod Standing
+pub mod Tables

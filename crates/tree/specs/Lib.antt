@@ -1,0 +1,5 @@
+pub mod Tree
+pub mod Rows
+pub mod Laws
+pub mod Plans
+pub mod Calls
