@@ -1,0 +1,3 @@
+mod Room
+mod Filling
+mod Asking
