@@ -1,8 +1,8 @@
 -- The key schedule is made of bytes, so AES permutes the blocks.
 use Rattle.std.proofs.Common.{◌≡◌, ℕ, zero, suc, ◌+◌, ◌-◌, ◌*◌, ◌/◌, ◌%◌, ◌<◌, Bool, true, false, cond, ◌&&◌, eqb, ltb, List, [], ◌∷◌, ◌++◌, length, drop, refl, ◌∙◌, lit<}
-use Rattle.bytes.specs.Strings.{Bytes, Sized, part, xors}
-use Rattle.bytes.proofs.Xors.{xors_bytes, xors_length}
-use Rattle.bytes.proofs.Parts.{at_byte, append_bytes, take_bytes, drop_bytes}
+use Rattle.byte_strings.specs.Strings.{Bytes, Sized, part, xors}
+use Rattle.byte_strings.proofs.Xors.{xors_bytes, xors_length}
+use Rattle.byte_strings.proofs.Parts.{at_byte, append_bytes, take_bytes, drop_bytes}
 use Rattle.field.specs.Field.{x_times}
 use Rattle.field.proofs.Linear.{x_times_byte}
 use Rattle.round.specs.State.{shift_rows, sub_bytes}

@@ -1,7 +1,7 @@
 -- InvCipher undoes Cipher, and the other way round, under any schedule of bytes.
 use Rattle.std.proofs.Common.{◌≡◌, ℕ, zero, suc, ◌-◌, List, ap, ◌∙◌}
-use Rattle.bytes.specs.Strings.{Bytes, Sized, xors}
-use Rattle.bytes.proofs.Xors.{xors_xors, xors_sized}
+use Rattle.byte_strings.specs.Strings.{Bytes, Sized, xors}
+use Rattle.byte_strings.proofs.Xors.{xors_xors, xors_sized}
 use Rattle.round.specs.State.{sub_bytes, inv_sub_bytes, shift_rows, inv_shift_rows, mix_columns, inv_mix_columns}
 use Rattle.round.proofs.Steps.{sub_undo, inv_sub_undo, shift_undo, inv_shift_undo, mix_undo, inv_mix_undo, sub_sized, inv_sub_sized, shift_sized, inv_shift_sized, mix_sized, inv_mix_sized}
 use Rattle.aes.specs.Cipher.{round_key, rounds, cipher, inv_rounds, inv_cipher}

@@ -1,6 +1,6 @@
 -- Cipher and InvCipher of FIPS 197 over a key schedule w, and AES.
 use Rattle.std.specs.Prelude.{ℕ, zero, suc, ◌+◌, ◌-◌, ◌*◌, ◌/◌, List, length}
-use Rattle.bytes.specs.Strings.{part}
+use Rattle.byte_strings.specs.Strings.{part}
 use Rattle.round.specs.State.{add_round_key}
 use Rattle.round.specs.Rounds.{round_of, last_round, inv_round, inv_last_round}
 use Rattle.aes.specs.KeySchedule.{key_expansion}

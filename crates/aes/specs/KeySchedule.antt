@@ -1,6 +1,6 @@
 -- KeyExpansion of FIPS 197: the key schedule w is a string of bytes, four to a word.
 use Rattle.std.specs.Prelude.{ℕ, zero, suc, ◌+◌, ◌-◌, ◌*◌, ◌/◌, ◌%◌, Bool, cond, ◌&&◌, ◌||◌, List, [], ◌∷◌, ◌++◌, map, length, ◌==◌, nat_lt, slice_index}
-use Rattle.bytes.specs.Strings.{part, xors}
+use Rattle.byte_strings.specs.Strings.{part, xors}
 use Rattle.field.specs.Field.{s_box, x_times}
 
 -- the lengths of key that this product uses, in bytes; the standard has one of 24 too

@@ -1,6 +1,6 @@
 -- AES and its inverse undo each other on every block, under every key of bytes.
 use Rattle.std.specs.Prelude.{◌≡◌, ℕ, List}
-use Rattle.bytes.specs.Strings.{Bytes, Sized}
+use Rattle.byte_strings.specs.Strings.{Bytes, Sized}
 use Rattle.aes.specs.Cipher.{encrypt, decrypt}
 
 pub record Permutes (key : List ℕ) : Type 0 where

@@ -1,13 +1,15 @@
 //! AES of FIPS 197 with keys of 16 and 32 bytes; the key schedule is a lent string of bytes.
+#![tactic(auto)]
+
 ghost use Rattle.std.specs.Prelude.{◌≡◌, ℕ, ◌+◌, ◌*◌, ◌/◌, ◌<◌, ◌≤◌, true, List, length, take};
-ghost use Rattle.bytes.specs.Strings.{xors};
+ghost use Rattle.byte_strings.specs.Strings.{xors};
 ghost use Rattle.aes.specs.KeySchedule.{key_length, sub_word, rot_word, rcon, power_of_x, temp, next_word, expanded, key_expansion};
 ghost use Rattle.round.specs.Rounds.{last_round};
 ghost use Rattle.round.specs.State.{add_round_key};
 ghost use Rattle.aes.specs.Cipher.{round_key, cipher, inv_cipher, encrypt, decrypt};
 ghost use Rattle.aes.specs.Laws.{AesPermutesBlocks};
 
-use bytes::{part_of, put, xor_block, xor_into};
+use byte_strings::{part_of, put, xor_block, xor_into};
 use field::sub_byte;
 use round::{inv_last_round, inv_round, last_round, round};
 

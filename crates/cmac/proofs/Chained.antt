@@ -1,7 +1,7 @@
 -- The chain, a block at a time.
 use Rattle.std.proofs.Common.{◌≡◌, ℕ, suc, ◌+◌, ◌-◌, ◌*◌, ◌<◌, true, false, cond, List, take, drop, sym, ap, ◌∙◌, ap₂, arith}
 use Rattle.std.proofs.lemmas.List.{drop-drop}
-use Rattle.bytes.specs.Strings.{xors}
+use Rattle.byte_strings.specs.Strings.{xors}
 use Rattle.cmac.specs.Cmac.{zeros, k1, k2, padding, whole, m_last, chain}
 
 module _ (e : List ℕ → List ℕ) (m : List ℕ) where

@@ -1,7 +1,7 @@
 -- The padding as the code writes it.
 use Rattle.std.proofs.Common.{◌≡◌, ℕ, ◌+◌, ◌-◌, ◌<◌, List, ◌∷◌, ◌++◌, length, drop, set, replicate, ap, ◌∙◌, arith}
 use Rattle.std.proofs.lemmas.List.{drop-set, drop-replicate, length-replicate}
-use Rattle.bytes.specs.Strings.{over}
+use Rattle.byte_strings.specs.Strings.{over}
 use Rattle.cmac.specs.Cmac.{padding}
 
 marked : (k v : ℕ) (m : List ℕ) → length m < k → over (set (replicate k 0) (length m) v) 0 m ≡ m ++ (v ∷ replicate (k - (length m + 1)) 0)

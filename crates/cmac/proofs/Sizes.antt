@@ -3,9 +3,9 @@ use Rattle.std.proofs.Common.{◌≡◌, ℕ, zero, suc, ◌+◌, ◌-◌, ◌*�
 use borrow.Author.Tests.{eqb-false}
 use Rattle.std.proofs.lemmas.Nat.{mod_below}
 use Rattle.std.proofs.lemmas.List.{length-drop, length-append, length-replicate}
-use Rattle.bytes.specs.Strings.{Bytes, Sized, xors}
-use Rattle.bytes.proofs.Parts.{append_bytes, take_bytes, drop_bytes, replicate_bytes}
-use Rattle.bytes.proofs.Xors.{xors_sized}
+use Rattle.byte_strings.specs.Strings.{Bytes, Sized, xors}
+use Rattle.byte_strings.proofs.Parts.{append_bytes, take_bytes, drop_bytes, replicate_bytes}
+use Rattle.byte_strings.proofs.Xors.{xors_sized}
 use Rattle.cmac.specs.Blocks.{number_of, bytes_of, times_x, dbl}
 use Rattle.cmac.specs.Cmac.{zeros, k1, k2, padding, whole, m_last, before_last, chain, cmac}
 

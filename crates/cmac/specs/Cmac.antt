@@ -1,6 +1,6 @@
 -- RFC 4493, the AES-CMAC algorithm, over a block cipher e and for a message of any length.
 use Rattle.std.specs.Prelude.{ℕ, zero, suc, ◌-◌, ◌/◌, Bool, cond, List, ◌∷◌, ◌++◌, length, take, drop, replicate, ◌==◌}
-use Rattle.bytes.specs.Strings.{xors}
+use Rattle.byte_strings.specs.Strings.{xors}
 use Rattle.cmac.specs.Blocks.{dbl}
 
 -- const_Zero

@@ -1,4 +1,6 @@
 //! AES-CMAC, RFC 4493.
+#![tactic(auto)]
+
 ghost use Rattle.std.specs.Prelude.{◌≡◌, ◌<◌, ◌≤◌, cond, length, slice_set};
 ghost use Rattle.aes.specs.Cipher.{cipher};
 ghost use Rattle.cmac.specs.Blocks.{number_of, bytes_of, times_x, dbl};
@@ -6,7 +8,7 @@ ghost use Rattle.cmac.specs.Cmac.{zeros, k1, k2, padding, whole, m_last, before_
 ghost use Rattle.cmac.specs.Cmac.{cmac as tag_of};
 
 use aes::encipher;
-use bytes::{part_of, put, xor_block};
+use byte_strings::{part_of, put, xor_block};
 
 /// A block as a number, its first byte highest.
 pub fn number_of(b: [u8; 16]) -> u128

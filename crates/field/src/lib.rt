@@ -1,4 +1,6 @@
 //! The field of 256 elements of FIPS 197, its two S-boxes, and one byte of each mix of a column.
+#![tactic(auto)]
+
 ghost use Rattle.std.specs.Prelude.{◌≡◌, ◌<◌};
 ghost use Rattle.field.specs.Field.{s_box, inv_s_box, x_times, scaled, product, mix_byte, inv_mix_byte};
 ghost use Rattle.field.specs.Laws.{BoxesUndo, InverseInverts, ProductLinear, ColumnsUndo, BoxExamples};

@@ -1,6 +1,6 @@
 -- A key's name is its node and the epoch in which the key was made. A wrap's name is that of its opener and that of its content.
 use Rattle.std.specs.Prelude.{List, ◌∷◌, ◌++◌, ℕ, get_or, replicate}
-use Rattle.bytes.specs.Numbers.{big4}
+use Rattle.byte_strings.specs.Numbers.{big4}
 use Rattle.keys.specs.declared.KeyName.{KeyName}
 use Rattle.keys.specs.declared.NodeKey.{NodeKey}
 

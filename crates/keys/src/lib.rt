@@ -1,4 +1,6 @@
 //! The keys of the tree's nodes, and their names.
+#![tactic(auto)]
+
 ghost use Rattle.std.specs.Prelude.{◌≡◌};
 ghost use Rattle.keys.specs.Names.{wrap_name};
 

@@ -2,9 +2,9 @@
 use Rattle.std.specs.Prelude.{◌≡◌, ℕ, Bool, true, false, cond, List, ◌++◌, Some, None, refl}
 use Rattle.std.proofs.Common.{sym, ap₂, ◌∙◌, subst, arith, lit<, lit≤}
 use Rattle.std.proofs.Math.Path.{ap}
-use Rattle.bytes.specs.Strings.{Sized, same}
-use Rattle.bytes.proofs.Parts.{append_sized, replicate_bytes, two_parts, last_part, part_sized}
-use Rattle.bytes.proofs.Sames.{same_lists}
+use Rattle.byte_strings.specs.Strings.{Sized, same}
+use Rattle.byte_strings.proofs.Parts.{append_sized, replicate_bytes, two_parts, last_part, part_sized}
+use Rattle.byte_strings.proofs.Sames.{same_lists}
 use Rattle.aes.specs.Cipher.{encrypt, decrypt}
 use Rattle.aes.specs.Laws.{Permutes}
 use Rattle.kw.specs.Wrapping.{initial_value, blocks, wrap_steps, unwrap_steps, recovered, key_wrap, key_unwrap}

@@ -4,9 +4,9 @@ use Rattle.std.proofs.Math.Path.{refl, ap, ap₂}
 use Rattle.std.proofs.Common.{sym, ◌∙◌, add-one, lit<, lit≤}
 use native.Mathlib.Omega.{arith}
 use Rattle.std.proofs.lemmas.List.{take-append-drop, take_all, length-drop, length-append, take_at, drop_at, append_assoc, drop-drop}
-use Rattle.bytes.specs.Strings.{Bytes, Sized, xors}
-use Rattle.bytes.proofs.Parts.{take_sized, drop_sized, append_sized, part_sized, two_parts, last_part, middle_part}
-use Rattle.bytes.proofs.Xors.{xors_xors, xors_sized}
+use Rattle.byte_strings.specs.Strings.{Bytes, Sized, xors}
+use Rattle.byte_strings.proofs.Parts.{take_sized, drop_sized, append_sized, part_sized, two_parts, last_part, middle_part}
+use Rattle.byte_strings.proofs.Xors.{xors_xors, xors_sized}
 use Rattle.aes.specs.Cipher.{encrypt, decrypt}
 use Rattle.aes.specs.Laws.{Permutes}
 use Rattle.kw.specs.Wrapping.{blocks, word64, wrap_step, unwrap_step, wrap_steps, unwrap_steps}

@@ -1,6 +1,6 @@
 -- RFC 3394: the AES key wrap of four 64-bit blocks, as its sections 2.2.1 and 2.2.2 describe it, by a shift register.
 use Rattle.std.specs.Prelude.{ℕ, zero, suc, ◌*◌, cond, List, [], ◌∷◌, ◌++◌, replicate, Some, None, Option}
-use Rattle.bytes.specs.Strings.{xors, part, same}
+use Rattle.byte_strings.specs.Strings.{xors, part, same}
 use Rattle.aes.specs.Cipher.{encrypt, decrypt}
 
 -- the default initial value, A6A6A6A6A6A6A6A6

@@ -1,4 +1,6 @@
 //! The AES key wrap of RFC 3394, of 32 bytes under a 32-byte key.
+#![tactic(auto)]
+
 ghost use Rattle.std.specs.Prelude.{◌≡◌, length};
 ghost use Rattle.kw.specs.Wrapping.{key_wrap, key_unwrap};
 ghost use Rattle.aes.proofs.Permuting.{permutes};

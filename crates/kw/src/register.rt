@@ -1,11 +1,11 @@
 //! The shift register of RFC 3394: A | R[1] | R[2] | R[3] | R[4], five blocks of 64 bits.
 ghost use Rattle.std.specs.Prelude.{◌≡◌, ◌++◌, length};
-ghost use Rattle.bytes.specs.Strings.{xors};
+ghost use Rattle.byte_strings.specs.Strings.{xors};
 ghost use Rattle.aes.specs.Cipher.{cipher, inv_cipher};
 ghost use Rattle.kw.specs.Wrapping.{initial_value, msb64, lsb64, word64, wrap_step, unwrap_step, wrap_steps, unwrap_steps, recovered};
 
 use aes::{decipher, encipher};
-use bytes::{equal, part_of, put, xor_into};
+use byte_strings::{equal, part_of, put, xor_into};
 
 /// The rounds of AES under a 32-byte key.
 const ROUNDS: usize = 14;

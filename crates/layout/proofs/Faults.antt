@@ -1,7 +1,7 @@
 -- The first fault of fields that stand in parts.
 use Rattle.std.proofs.Common.{◌≡◌, ℕ, ◌+◌, ◌≤◌, List, [], ◌∷◌, ◌++◌, length, take, drop, None, Option, refl, ap, ◌∙◌, arith}
 use Rattle.std.specs.Option.{option_or}
-use Rattle.bytes.specs.Numbers.{byte_at, number2, number4}
+use Rattle.byte_strings.specs.Numbers.{byte_at, number2, number4}
 use Rattle.rekey.specs.Fields.{Field, fault}
 use Rattle.rekey.specs.Layout.{head_fields, node_fields, count_fields, wrap_fields, wraps_fields, nodes_of, wrap_count, layout_fault}
 

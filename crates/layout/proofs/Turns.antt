@@ -2,7 +2,7 @@
 use Rattle.std.proofs.Common.{◌≡◌, ℕ, suc, ◌+◌, ◌-◌, ◌<◌, ◌≤◌, false, ◌||◌, eqb, List, ◌∷◌, length, get_or, drop, ap, ◌∙◌, arith}
 use Rattle.std.specs.Option.{option_or}
 use Rattle.std.proofs.lemmas.List.{at_drop_more, at_drop_all}
-use Rattle.bytes.specs.Numbers.{byte_at}
+use Rattle.byte_strings.specs.Numbers.{byte_at}
 use Rattle.rekey.specs.Fields.{field, fault}
 use Rattle.rekey.specs.Layout.{node_right, node_fields, listed, wrap_fields, wraps_fields}
 use Rattle.layout.proofs.Faults.{fault_++}

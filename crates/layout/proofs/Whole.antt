@@ -2,7 +2,7 @@
 use Rattle.std.proofs.Common.{◌≡◌, ℕ, ◌+◌, ◌-◌, true, not, List, length, take, drop, is_some, IfOk, Some, None, Ok, Err, Option, Result, sym, refl, ap, ◌∙◌, arith}
 use Rattle.std.specs.Option.{option_or}
 use Rattle.refusal.specs.Refusals.{told}
-use Rattle.bytes.specs.Numbers.{byte_at, number2, number4}
+use Rattle.byte_strings.specs.Numbers.{byte_at, number2, number4}
 use Rattle.rekey.specs.Fields.{fault}
 use Rattle.rekey.specs.Layout.{head_fields, node_fields, count_fields, wraps_fields, layout_fault, accepted}
 use Rattle.layout.specs.declared.fault.FileFault.{FileFault}

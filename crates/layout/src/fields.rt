@@ -1,6 +1,6 @@
 //! The fields of a file, one by one: each is there, and right.
 ghost use Rattle.std.specs.Prelude.{◌≡◌, ◌+◌, ◌^◌, ◌<◌, ◌≤◌, [], ◌∷◌, length};
-ghost use Rattle.bytes.specs.Numbers.{byte_at, number2, number4};
+ghost use Rattle.byte_strings.specs.Numbers.{byte_at, number2, number4};
 ghost use Rattle.rekey.specs.Fields.{field, fault};
 ghost use Rattle.rekey.specs.Layout.{between, head_fields, node_right, count_fields, listed, content_right, opener_at, wrap_fields};
 ghost use Rattle.layout.specs.Judging.{judged};

@@ -1,4 +1,6 @@
 //! The check of a rekey file: whether bytes are one, and the place of the first fault if not.
+#![tactic(auto)]
+
 ghost use Rattle.std.specs.Prelude.{◌≡◌, true, OnOk};
 ghost use Rattle.refusal.specs.Refusals.{told};
 ghost use Rattle.rekey.specs.Layout.{accepted};

@@ -1,4 +1,6 @@
 //! Answers lines of a strategy and a row of codes with the strategy's plan.
+#![tactic(auto)]
+
 ghost use Rattle.std.specs.Prelude.{◌≡◌, ◌≤◌, ◌++◌, length, drop};
 
 mod bad;

@@ -1,6 +1,6 @@
 //! A rekey file that was checked.
 ghost use Rattle.std.specs.Prelude.{◌≡◌, ◌+◌, ◌<◌, ◌≤◌, true, length};
-ghost use Rattle.bytes.specs.Numbers.{byte_at, number4};
+ghost use Rattle.byte_strings.specs.Numbers.{byte_at, number4};
 ghost use Rattle.rekey.specs.Files.{file_size};
 ghost use Rattle.rekey.specs.Layout.{nodes_of, listed, wrap_count, accepted};
 ghost use Rattle.rekey.specs.Reading.{wrap_at, wrap_place};

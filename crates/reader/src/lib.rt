@@ -1,4 +1,6 @@
 //! Rekey files that were checked: what stands in them, and the opening of a wrap.
+#![tactic(auto)]
+
 ghost use Rattle.reader.specs.Laws.{WrapsInOrder};
 
 mod file;

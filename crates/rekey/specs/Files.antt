@@ -1,7 +1,7 @@
 -- A rekey file as a value, and its bytes.
 use Rattle.std.specs.Prelude.{ℕ, ◌+◌, ◌*◌, List, ◌∷◌, ◌++◌, length}
 use Rattle.std.specs.List.{flat_map}
-use Rattle.bytes.specs.Numbers.{big2, big4}
+use Rattle.byte_strings.specs.Numbers.{big2, big4}
 use Rattle.keys.specs.declared.KeyName.{KeyName}
 use Rattle.keys.specs.Names.{name_bytes}
 

@@ -1,6 +1,6 @@
 -- Which files there are; that each is read back from its bytes, and that nothing else is accepted.
 use Rattle.std.specs.Prelude.{◌≡◌, ℕ, ◌<◌, ◌≤◌, true, List, [], ◌∷◌, length, None}
-use Rattle.bytes.specs.Strings.{Bytes, Sized}
+use Rattle.byte_strings.specs.Strings.{Bytes, Sized}
 use Rattle.tree.specs.declared.types.Code.{Code}
 use Rattle.tree.specs.declared.types.Pair.{Pair}
 use Rattle.tree.specs.Tree.{Within}

@@ -1,6 +1,6 @@
 -- The fields of a rekey file in byte order, and when each is right. A wrap has L sealed bytes.
 use Rattle.std.specs.Prelude.{ℕ, zero, suc, ◌+◌, Bool, true, not, ◌&&◌, ◌||◌, List, [], ◌∷◌, ◌++◌, length, take, drop, is_some, Option, ◌==◌, nat_eq, nat_le, nat_lt}
-use Rattle.bytes.specs.Numbers.{byte_at, number2, number4}
+use Rattle.byte_strings.specs.Numbers.{byte_at, number2, number4}
 use Rattle.keys.specs.declared.KeyName.{KeyName}
 use Rattle.keys.specs.Names.{named}
 use Rattle.tree.specs.Tree.{some, within}

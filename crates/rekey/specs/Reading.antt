@@ -1,7 +1,7 @@
 -- What stands in the bytes of a file that has no fault.
 use Rattle.std.specs.Prelude.{ℕ, zero, suc, ◌+◌, ◌*◌, List, [], ◌∷◌}
-use Rattle.bytes.specs.Numbers.{byte_at, number4}
-use Rattle.bytes.specs.Strings.{part}
+use Rattle.byte_strings.specs.Numbers.{byte_at, number4}
+use Rattle.byte_strings.specs.Strings.{part}
 use Rattle.rekey.specs.Files.{Wrapped, Rekey}
 use Rattle.rekey.specs.Layout.{opener_at, nodes_of, wrap_count}
 

@@ -1,8 +1,8 @@
 -- Each transformation keeps a state a state, and is undone by its inverse.
 use Rattle.std.proofs.Common.{◌≡◌, ℕ, suc, ◌+◌, ◌-◌, ◌*◌, ◌/◌, ◌%◌, ◌<◌, List, [], ◌∷◌, map, length, get_or, sym, refl, ap, ◌∙◌, ap₂}
 use Rattle.std.proofs.lemmas.List.{length-map}
-use Rattle.bytes.specs.Strings.{Bytes, Sized}
-use Rattle.bytes.proofs.Parts.{at_byte}
+use Rattle.byte_strings.specs.Strings.{Bytes, Sized}
+use Rattle.byte_strings.proofs.Parts.{at_byte}
 use Rattle.field.specs.Field.{s_box, inv_s_box, mix_byte, inv_mix_byte}
 use Rattle.field.proofs.Boxes.{inv_s_box_undoes, s_box_undoes, s_box_byte, inv_s_box_byte}
 use Rattle.field.proofs.Columns.{inv_mix_mix, mix_inv_mix, mix_byte_lem, inv_mix_byte_lem}

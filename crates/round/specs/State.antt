@@ -1,6 +1,6 @@
 -- The transformations of the state of FIPS 197: a state is the list of its 16 bytes, column after column.
 use Rattle.std.specs.Prelude.{ℕ, ◌+◌, ◌-◌, ◌*◌, ◌/◌, ◌%◌, List, [], ◌∷◌, map, slice_index}
-use Rattle.bytes.specs.Strings.{xors}
+use Rattle.byte_strings.specs.Strings.{xors}
 use Rattle.field.specs.Field.{s_box, inv_s_box, mix_byte, inv_mix_byte}
 
 abbrev pub sub_bytes : List ℕ → List ℕ

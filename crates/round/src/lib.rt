@@ -1,10 +1,12 @@
 //! The rounds of AES on a state of 16 bytes, by value.
+#![tactic(auto)]
+
 ghost use Rattle.std.specs.Prelude.{◌≡◌};
-ghost use Rattle.bytes.specs.Strings.{xors};
+ghost use Rattle.byte_strings.specs.Strings.{xors};
 ghost use Rattle.round.specs.Rounds.{round_of, last_round, inv_round, inv_last_round};
 ghost use Rattle.round.specs.State.{sub_bytes, inv_sub_bytes, shift_rows, inv_shift_rows, mix_columns, inv_mix_columns};
 
-use bytes::xor_block;
+use byte_strings::xor_block;
 use field::{inv_mix_byte, inv_sub_byte, mix_byte, sub_byte};
 
 fn sub_bytes(s: [u8; 16]) -> [u8; 16]

@@ -1,4 +1,6 @@
 //! Shows what stands in a rekey file, or where its first fault is.
+#![tactic(auto)]
+
 ghost use Rattle.std.specs.Prelude.{◌≡◌, true, IfNone};
 ghost use Rattle.rekey.specs.Layout.{layout_fault, accepted};
 

@@ -3,11 +3,11 @@ use Rattle.std.proofs.Common.{◌≡◌, ℕ, ◌-◌, ◌<◌, ◌≤◌, List,
 use borrow.Rule.Slice.PartMut.{put_mid}
 use borrow.Author.Tests.{lt-leb}
 use Rattle.std.proofs.lemmas.List.{length-append, length-drop, length-take-le, take_at, drop_at, take-append-drop}
-use Rattle.bytes.specs.Strings.{xors}
-use Rattle.bytes.proofs.Xors.{xors_xors, xors_length}
+use Rattle.byte_strings.specs.Strings.{xors}
+use Rattle.byte_strings.proofs.Xors.{xors_xors, xors_length}
 use Rattle.cmac.specs.Blocks.{dbl}
 use Rattle.cmac.specs.Cmac.{zeros, padding, cmac}
-use Rattle.bytes.proofs.Tails.{tail_added}
+use Rattle.byte_strings.proofs.Tails.{tail_added}
 use Rattle.siv.specs.S2v.{xorend, gathered, last_string, s2v}
 
 module _ (e : List ℕ → List ℕ) (strings : List (List ℕ)) (text d : List ℕ) (is : d ≡ gathered e (cmac e zeros) strings) where

@@ -1,6 +1,6 @@
 -- The counter mode of RFC 5297, over a block cipher e.
 use Rattle.std.specs.Prelude.{ℕ, zero, suc, ◌+◌, ◌/◌, ◌%◌, ◌^◌, List, [], ◌++◌, length, bit_and, slice_index, slice_set}
-use Rattle.bytes.specs.Strings.{xors}
+use Rattle.byte_strings.specs.Strings.{xors}
 use Rattle.cmac.specs.Blocks.{number_of, bytes_of}
 
 -- the byte at place i without its highest bit

@@ -3,8 +3,8 @@ use Rattle.std.specs.Prelude.{◌≡◌, ℕ, List, [], ◌∷◌, take, drop, S
 use Rattle.std.proofs.Common.{subst, lit≤}
 use Rattle.aes.specs.Cipher.{encrypt}
 use Rattle.aes.proofs.Permuting.{permutes, encrypt_length}
-use Rattle.bytes.specs.Strings.{Bytes, Sized}
-use Rattle.bytes.proofs.Parts.{take_bytes, drop_bytes, take_sized, drop_sized, append_sized}
+use Rattle.byte_strings.specs.Strings.{Bytes, Sized}
+use Rattle.byte_strings.proofs.Parts.{take_bytes, drop_bytes, take_sized, drop_sized, append_sized}
 use Rattle.siv.specs.Counter.{ctr}
 use Rattle.siv.specs.S2v.{s2v}
 use Rattle.siv.specs.Siv.{siv, open_siv}

@@ -2,7 +2,7 @@
 use Rattle.std.specs.Prelude.{◌≡◌, ℕ, Bool, true, false, cond, List, ◌++◌, length, take, drop, Some, None, refl}
 use Rattle.std.proofs.Common.{sym, ap, ap₂, ◌∙◌, arith}
 use Rattle.std.proofs.lemmas.List.{take-append-drop, take_at, drop_at}
-use Rattle.bytes.proofs.Sames.{same_lists, same_self}
+use Rattle.byte_strings.proofs.Sames.{same_lists, same_self}
 use Rattle.cmac.proofs.Sizes.{cmac_length}
 use Rattle.cmac.specs.Cmac.{zeros, cmac}
 use Rattle.siv.specs.Counter.{ctr}

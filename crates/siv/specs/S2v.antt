@@ -1,6 +1,6 @@
 -- S2V of RFC 5297, over a block cipher e: a block from a vector of strings and a text of any lengths.
 use Rattle.std.specs.Prelude.{ℕ, ◌-◌, cond, List, [], ◌∷◌, ◌++◌, length, take, drop, nat_le}
-use Rattle.bytes.specs.Strings.{xors}
+use Rattle.byte_strings.specs.Strings.{xors}
 use Rattle.cmac.specs.Blocks.{dbl}
 use Rattle.cmac.specs.Cmac.{zeros, padding, cmac}
 

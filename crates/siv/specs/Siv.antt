@@ -1,7 +1,7 @@
 -- RFC 5297, synthetic initialization vectors: sealing and opening a text of any length.
 use Rattle.std.specs.Prelude.{ℕ, Bool, cond, List, ◌++◌, take, drop, Some, None, Option}
 use Rattle.aes.specs.Cipher.{encrypt}
-use Rattle.bytes.specs.Strings.{same}
+use Rattle.byte_strings.specs.Strings.{same}
 use Rattle.siv.specs.S2v.{s2v}
 use Rattle.siv.specs.Counter.{ctr}
 

@@ -3,9 +3,9 @@ use Rattle.std.specs.Prelude.{◌≡◌, ℕ, zero, suc, ◌+◌, ◌-◌, ◌/�
 use Rattle.std.proofs.Common.{◌∙◌, arith, leb-false}
 use Rattle.std.proofs.lemmas.Nat.{and_le_l}
 use Rattle.std.proofs.lemmas.List.{length-set}
-use Rattle.bytes.specs.Strings.{Bytes, Sized, xors}
-use Rattle.bytes.proofs.Parts.{at_byte, append_bytes, take_bytes, drop_bytes}
-use Rattle.bytes.proofs.Xors.{xors_bytes, xors_sized}
+use Rattle.byte_strings.specs.Strings.{Bytes, Sized, xors}
+use Rattle.byte_strings.proofs.Parts.{at_byte, append_bytes, take_bytes, drop_bytes}
+use Rattle.byte_strings.proofs.Xors.{xors_bytes, xors_sized}
 use Rattle.cmac.specs.Blocks.{number_of, dbl}
 use Rattle.cmac.specs.Cmac.{zeros, padding, cmac}
 use Rattle.cmac.proofs.Sizes.{bytes_of_sized, dbl_sized, padding_sized, cmac_sized}

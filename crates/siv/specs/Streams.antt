@@ -4,10 +4,10 @@ use Rattle.std.proofs.Math.Path.{sym, ap, ap₂}
 use Rattle.std.proofs.Common.{◌∙◌}
 use native.Mathlib.Omega.{arith}
 use Rattle.std.proofs.lemmas.List.{append_assoc, drop-drop, drop_at, length-take-le, take-append-drop}
-use Rattle.bytes.specs.Strings.{xors}
-use Rattle.bytes.proofs.Xors.{xors_append, xors_nil, xors_length, xors_xors}
+use Rattle.byte_strings.specs.Strings.{xors}
+use Rattle.byte_strings.proofs.Xors.{xors_append, xors_nil, xors_length, xors_xors}
 use Rattle.siv.specs.Counter.{cleared, inc, keystream, ctr}
-use Rattle.bytes.proofs.Tails.{take_past}
+use Rattle.byte_strings.proofs.Tails.{take_past}
 
 -- the text as it will be, where i of n blocks are done and q is the counter
 abbrev pub to_come : (List ℕ → List ℕ) → ℕ → ℕ → List ℕ → List ℕ → List ℕ

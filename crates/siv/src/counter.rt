@@ -5,7 +5,7 @@ ghost use Rattle.siv.specs.Counter.{cleared, inc};
 ghost use Rattle.siv.specs.Counter.{ctr as counted};
 
 use aes::encipher;
-use bytes::xor_into;
+use byte_strings::xor_into;
 use cmac::{block_of, number_of};
 
 /// Q, the first counter: the IV without bits 31 and 63, as the RFC has it for the sake of 32-bit adders.

@@ -1,4 +1,6 @@
 //! AES-SIV, RFC 5297: sealing and opening in place, for strings and texts of any length.
+#![tactic(auto)]
+
 ghost use Rattle.std.specs.Prelude.{◌≡◌, [], ◌∷◌, ◌++◌, length, take, drop, is_some};
 ghost use Rattle.aes.specs.Cipher.{cipher, encrypt};
 ghost use Rattle.siv.specs.Siv.{siv_encrypt, accepted, decrypt_parts, text_or, siv, open_siv};
@@ -7,7 +9,7 @@ ghost use Rattle.siv.specs.Lawful.{siv_sized, open_siv_lem, open_only};
 ghost use Rattle.std.proofs.Common.{rules};
 
 use aes::key_expansion;
-use bytes::{equal, part_of, put};
+use byte_strings::{equal, part_of, put};
 use wrap::Wrap;
 
 mod counter;

@@ -1,14 +1,14 @@
 //! S2V: the synthetic IV of an associated string and a text.
 ghost use Rattle.std.specs.Prelude.{◌≡◌, ◌<◌, ◌≤◌, [], ◌∷◌, length};
 ghost use Rattle.aes.specs.Cipher.{cipher};
-ghost use Rattle.bytes.specs.Strings.{xors};
+ghost use Rattle.byte_strings.specs.Strings.{xors};
 ghost use Rattle.cmac.specs.Blocks.{dbl};
 ghost use Rattle.cmac.specs.Cmac.{padding};
 ghost use Rattle.cmac.specs.Cmac.{cmac as tag_of};
 ghost use Rattle.siv.specs.S2v.{xorend, gathered};
 ghost use Rattle.siv.specs.S2v.{s2v as synthetic};
 
-use bytes::{xor_block, xor_into};
+use byte_strings::{xor_block, xor_into};
 use cmac::{double, mac, pad};
 
 /// D past one more string.

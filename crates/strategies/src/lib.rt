@@ -1,4 +1,6 @@
 //! The three rekey strategies.
+#![tactic(auto)]
+
 ghost use Rattle.rules.specs.Rules.{plan, star, user_oriented, key_oriented};
 ghost use Rattle.rules.proofs.StarLaw.{star_lawful};
 ghost use Rattle.rules.proofs.UserLaw.{user_oriented_lawful};

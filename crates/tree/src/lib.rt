@@ -1,4 +1,6 @@
 //! The key tree, rows of codes, and the interface of a rekey strategy.
+#![tactic(auto)]
+
 ghost use Rattle.std.specs.Prelude.{◌≡◌, List, length};
 ghost use Rattle.refusal.specs.Refusals.{told};
 ghost use Rattle.tree.specs.declared.types.Code.{Code as Codes};

@@ -1,6 +1,8 @@
 //! The interface of a key wrap: what it seals and opens, its refusals, the guard over working bytes.
+#![tactic(auto)]
+
 ghost use Rattle.std.specs.Prelude.{◌≡◌, ℕ, ◌≤◌, List, length, Some, Option};
-ghost use Rattle.bytes.specs.Strings.{Sized};
+ghost use Rattle.byte_strings.specs.Strings.{Sized};
 ghost use Rattle.refusal.specs.Refusals.{told};
 ghost use Rattle.wrap.specs.Refusals.{refusal_of};
 ghost use Rattle.wrap.specs.Calls.{wiped, seal_verdict, seal_leaves, open_verdict, open_leaves};

@@ -1,5 +1,5 @@
 //! What may be wrong with a line.
-use hex::HexFault;
+use hex_text::HexFault;
 use std::alloc::AllocError;
 use std::fmt;
 

@@ -7,9 +7,9 @@ ghost use Rattle.wraptool.specs.Answers.{key_bytes, Shows, sized};
 
 use crate::bad::{Bad, Part};
 use aes::{decrypt_block, encrypt_block, key_expansion};
-use bytes::part_of;
+use byte_strings::part_of;
 use cmac::mac;
-use hex::decode;
+use hex_text::decode;
 use kw::KeyWrap;
 use siv::{Siv, seal_under};
 use std::alloc::Global;

@@ -1,10 +1,12 @@
 //! Answers lines of standard input: AES, AES-CMAC, AES-SIV, and sealing and opening a key.
+#![tactic(auto)]
+
 mod bad;
 mod commands;
 
 use bad::Bad;
 use commands::{Answer, carry_out};
-use hex::Hex;
+use hex_text::Hex;
 use std::alloc::Global;
 use std::io::{BufRead, BufReader};
 

@@ -1,5 +1,5 @@
 use Rattle.std.proofs.Common.{◌≡◌, ℕ, ◌+◌, ◌-◌, List, sym, ap, ◌∙◌, ap₂, arith}
-use Rattle.bytes.specs.Strings.{xors}
+use Rattle.byte_strings.specs.Strings.{xors}
 use Rattle.round.specs.Rounds.{round_of, last_round}
 use Rattle.aes.specs.Cipher.{rounds, round_key, cipher}
 use Rattle.aes.proofs.Turns.{rounds_none, rounds_more}

@@ -1,7 +1,7 @@
 use Rattle.std.proofs.Common.{ℕ, ◌≤◌, Bool, cond, List, length, sym, ap, ◌∙◌, arith}
 use Rattle.std.proofs.lemmas.List.{take_all}
 use Rattle.aes.specs.Cipher.{cipher}
-use Rattle.bytes.specs.Strings.{xors}
+use Rattle.byte_strings.specs.Strings.{xors}
 use Rattle.cmac.specs.Cmac.{k1, k2}
 use Rattle.cmac.proofs.Chained.{last_whole, last_padded}
 use Rattle.cmac.proofs.m_last.Goals as goal

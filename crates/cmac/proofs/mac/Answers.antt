@@ -1,7 +1,7 @@
 use Rattle.std.proofs.Common.{◌≡◌, ℕ, ◌+◌, ◌-◌, ◌*◌, List, drop, ap, ◌∙◌, arith}
 use Rattle.std.proofs.lemmas.List.{take_rest}
 use Rattle.aes.specs.Cipher.{cipher}
-use Rattle.bytes.specs.Strings.{xors}
+use Rattle.byte_strings.specs.Strings.{xors}
 use Rattle.cmac.specs.Cmac.{zeros, m_last, chain, cmac}
 use Rattle.cmac.proofs.Chained.{chain_none, chain_more, chain_all}
 use Rattle.cmac.proofs.mac.Goals as goal

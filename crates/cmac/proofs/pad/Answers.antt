@@ -1,5 +1,5 @@
 use Rattle.std.proofs.Common.{ℕ, List, ap, ◌∙◌}
-use Rattle.bytes.specs.Strings.{over}
+use Rattle.byte_strings.specs.Strings.{over}
 use Rattle.cmac.proofs.Padded.{padded}
 use Rattle.cmac.proofs.pad.Goals as goal
 

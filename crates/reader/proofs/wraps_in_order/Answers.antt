@@ -1,5 +1,5 @@
 use Rattle.std.proofs.Common.{◌+◌}
-use Rattle.bytes.specs.Numbers.{byte_at}
+use Rattle.byte_strings.specs.Numbers.{byte_at}
 use Rattle.rekey.specs.Layout.{wrap_count}
 use Rattle.reader.proofs.Laid.{wraps_many, wraps_nth}
 use Rattle.reader.proofs.wraps_in_order.Goals as goal

@@ -1,5 +1,5 @@
 use Rattle.std.proofs.Common.{◌≡◌, ℕ, ◌+◌, List, ◌++◌, length, ap, ◌∙◌, rules}
-use Rattle.bytes.proofs.Overs.{written_two}
+use Rattle.byte_strings.proofs.Overs.{written_two}
 use Rattle.kw.proofs.register.start.Goals as goal
 
 pub returns : goal.returns

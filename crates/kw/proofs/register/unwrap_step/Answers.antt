@@ -1,8 +1,8 @@
 use Rattle.std.proofs.Common.{◌≡◌, ℕ, ◌+◌, List, ◌++◌, length, ap, ◌∙◌, ap₂, rules}
-use Rattle.bytes.specs.Strings.{xors}
+use Rattle.byte_strings.specs.Strings.{xors}
 use Rattle.aes.specs.Cipher.{inv_cipher}
 use Rattle.kw.specs.Wrapping.{word64, unwrap_step}
-use Rattle.bytes.proofs.Overs.{written_two}
+use Rattle.byte_strings.proofs.Overs.{written_two}
 use Rattle.kw.proofs.register.unwrap_step.Goals as goal
 
 pub returns : goal.returns

@@ -1,8 +1,8 @@
 use Rattle.std.proofs.Common.{◌≡◌, ℕ, ◌+◌, List, ◌++◌, length, ap, ◌∙◌, ap₂, rules}
-use Rattle.bytes.specs.Strings.{xors}
+use Rattle.byte_strings.specs.Strings.{xors}
 use Rattle.aes.specs.Cipher.{cipher}
 use Rattle.kw.specs.Wrapping.{blocks, msb64, lsb64, word64, wrap_step}
-use Rattle.bytes.proofs.Overs.{written_three}
+use Rattle.byte_strings.proofs.Overs.{written_three}
 use Rattle.kw.proofs.register.wrap_step.Goals as goal
 
 pub returns : goal.returns

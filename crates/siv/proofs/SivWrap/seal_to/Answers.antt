@@ -1,5 +1,5 @@
 use Rattle.std.proofs.Common.{◌≡◌, ◌+◌, length, ◌∙◌, arith, rules}
-use Rattle.bytes.proofs.Overs.{written_two}
+use Rattle.byte_strings.proofs.Overs.{written_two}
 use Rattle.siv.proofs.SivWrap.seal_to.Goals as goal
 
 pub returns : goal.returns

@@ -1,9 +1,9 @@
 use Rattle.std.proofs.Common.{◌≡◌, ℕ, ◌+◌, ◌*◌, ◌/◌, ◌<◌, ◌≤◌, List, ◌++◌, length, take, drop, sym, ap, ◌∙◌, ap₂, arith, rules}
 use Rattle.aes.specs.Cipher.{cipher}
-use Rattle.bytes.specs.Strings.{xors}
+use Rattle.byte_strings.specs.Strings.{xors}
 use Rattle.siv.specs.Counter.{ctr}
 use Rattle.siv.specs.Streams.{to_come, stream_none, stream_more, stream_all, ctr_from, ctr_ctr}
-use Rattle.bytes.proofs.Tails.{tail_added}
+use Rattle.byte_strings.proofs.Tails.{tail_added}
 use Rattle.siv.proofs.counter.ctr.Goals as goal
 
 pub loop-i-init : goal.loop-i-init

@@ -1,6 +1,6 @@
 use Rattle.std.proofs.Common.{◌≡◌, ◌+◌, ◌/◌, length}
 use Rattle.aes.specs.Cipher.{cipher}
-use Rattle.bytes.specs.Strings.{xors}
+use Rattle.byte_strings.specs.Strings.{xors}
 use Rattle.siv.specs.Counter.{keystream}
 use Rattle.siv.specs.Streams.{to_come}
 use Rattle.siv.proofs.counter.ctr.Given as goal

@@ -4,7 +4,7 @@ use mathlib.Core.Bool.{and_assoc}
 use lib.Bits.{bit_xor, bit_or, bit_and, or_add_and, and_le_r, xor_assoc, xor_self, xor_zero_r}
 use borrow.Author.Tests.{eqb-false}
 use Rattle.std.proofs.lemmas.List.{take_all}
-use Rattle.bytes.specs.Strings.{same}
+use Rattle.byte_strings.specs.Strings.{same}
 
 and_both : (a b : Bool) → a && b ≡ true → (a ≡ true) × (b ≡ true)
 and_both true b e = (refl, e)

@@ -1,7 +1,7 @@
 -- Bytes written in hexadecimal, two digits to a byte, the high one first.
 use Rattle.std.specs.Prelude.{◌≡◌, ℕ, ◌+◌, ◌-◌, ◌*◌, Bool, cond, ◌&&◌, List, [], ◌∷◌, ◌++◌, Some, None, Option, nat_le}
-use Rattle.hex.specs.declared.HexFault.{HexFault}
-use Rattle.hex.specs.declared.HexFault.TheVariants.{OddCount, NotADigit, NoMemory}
+use Rattle.hex_text.specs.declared.HexFault.{HexFault}
+use Rattle.hex_text.specs.declared.HexFault.TheVariants.{OddCount, NotADigit, NoMemory}
 
 -- does c stand between a and b, these included?
 abbrev pub between : ℕ → ℕ → ℕ → Bool

@@ -2,8 +2,8 @@
 use Rattle.std.proofs.Common.{◌≡◌, ℕ, zero, suc, ◌+◌, ◌<◌, ◌≤◌, min, List, [], ◌∷◌, ◌++◌, length, get_or, take, drop, set, sym, refl, ap, ◌∙◌, ap₂, append-nil, add-one, arith}
 use lib.Bits.{bit_xor, xor_zero_r, xor_self, xor_assoc, xor_lt}
 use Rattle.std.proofs.lemmas.List.{take_all, drop_all}
-use Rattle.bytes.specs.Strings.{Bytes, Sized, xors}
-use Rattle.bytes.proofs.Writes.{write_more, read_here}
+use Rattle.byte_strings.specs.Strings.{Bytes, Sized, xors}
+use Rattle.byte_strings.proofs.Writes.{write_more, read_here}
 
 xor_undo : (x y : ℕ) → bit_xor (bit_xor x y) y ≡ x
 xor_undo x y = xor_assoc x y y ∙ ap (bit_xor x) (xor_self y) ∙ xor_zero_r x

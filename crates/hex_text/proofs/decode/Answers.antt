@@ -1,7 +1,7 @@
 use Rattle.std.proofs.Common.{◌≡◌, ℕ, ◌+◌, ◌*◌, ◌<◌, ◌≤◌, List, [], ◌∷◌, ◌++◌, length, drop, Some, None, vec_items, sym, ap, ◌∙◌, arith, rules}
-use Rattle.hex.specs.Digits.{decoded}
-use Rattle.hex.proofs.Decoding.{after, after_none, after_more, after_all, stopped, odd}
-use Rattle.hex.proofs.decode.Goals as goal
+use Rattle.hex_text.specs.Digits.{decoded}
+use Rattle.hex_text.proofs.Decoding.{after, after_none, after_more, after_all, stopped, odd}
+use Rattle.hex_text.proofs.decode.Goals as goal
 
 pub returns-then-text-ne0 : goal.returns-then-text-ne0
 returns-then-text-ne0 c = odd c.args.text.now c.if-text-ne0.true

@@ -1,6 +1,8 @@
 //! Strings of bytes: parts of a slice by value, writing over a part, exclusive or, comparison.
+#![tactic(auto)]
+
 ghost use Rattle.std.specs.Prelude.{◌≡◌, ℕ, ◌+◌, ◌≤◌, min, length, bit_or, bit_xor};
-ghost use Rattle.bytes.specs.Strings.{xors, over, part, same};
+ghost use Rattle.byte_strings.specs.Strings.{xors, over, part, same};
 
 /// The N bytes of `s` from place `at` on.
 pub fn part_of<const N: usize>(s: &[u8], at: usize) -> [u8; N]

@@ -1,7 +1,7 @@
 -- Strings that are written one after the other.
 use Rattle.std.proofs.Common.{◌≡◌, ℕ, ◌+◌, ◌≤◌, List, [], ◌++◌, length, drop, sym, refl, ap, ◌∙◌, ap₂, append_assoc, append-nil, arith}
 use Rattle.std.proofs.lemmas.List.{take_at, drop_at, drop-drop, drop_all, length-append}
-use Rattle.bytes.specs.Strings.{over}
+use Rattle.byte_strings.specs.Strings.{over}
 
 -- P stands at the front of s, and y is written behind it
 pub over_next : (P s y : List ℕ) (at : ℕ) → length P ≡ at → over (P ++ drop at s) at y ≡ (P ++ y) ++ drop (at + length y) s

@@ -1,6 +1,6 @@
 use Rattle.std.proofs.Common.{ℕ, ◌<◌, ◌≤◌, eqb, length, ap, ◌∙◌, arith}
-use Rattle.bytes.proofs.Sames.{same_more, same_all, same_uneven}
-use Rattle.bytes.proofs.equal.Goals as goal
+use Rattle.byte_strings.proofs.Sames.{same_more, same_all, same_uneven}
+use Rattle.byte_strings.proofs.equal.Goals as goal
 
 pub returns-then-a-b : goal.returns-then-a-b
 returns-then-a-b c = same_uneven c.args.a.now c.args.b.now c.if-a-b.true

@@ -1,7 +1,9 @@
 //! Bytes in hexadecimal: read in either case, written in lower case.
+#![tactic(auto)]
+
 ghost use Rattle.std.specs.Prelude.{◌≡◌, ◌<◌, IfSome, Some, MatchResult};
-ghost use Rattle.hex.specs.declared.HexFault.TheVariants.{NoMemory};
-ghost use Rattle.hex.specs.Digits.{digit_value, pair_value, decoded, Declined};
+ghost use Rattle.hex_text.specs.declared.HexFault.TheVariants.{NoMemory};
+ghost use Rattle.hex_text.specs.Digits.{digit_value, pair_value, decoded, Declined};
 
 use std::alloc::{AllocFailed, Global};
 use std::fmt;

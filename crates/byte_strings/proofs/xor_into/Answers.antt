@@ -1,6 +1,6 @@
 use Rattle.std.proofs.Common.{◌≡◌, ◌<◌, min, length, ◌∙◌, arith}
-use Rattle.bytes.proofs.Xors.{front_none, front_more, front_all}
-use Rattle.bytes.proofs.xor_into.Goals as goal
+use Rattle.byte_strings.proofs.Xors.{front_none, front_more, front_all}
+use Rattle.byte_strings.proofs.xor_into.Goals as goal
 
 pub loop-i-init : goal.loop-i-init
 loop-i-init c = front_none c.args.s.now c.args.x.now
