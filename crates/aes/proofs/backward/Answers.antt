@@ -9,7 +9,7 @@ loop-i-preserved c =
     let w : List ℕ = c.args.w.now in
     let j : ℕ = c.loop-i.i - 1 in
     let here : c.loop-i.i - 1 - 1 + 1 ≡ c.loop-i.i - 1 = omega arith in
-    ap (inv_rounds w (j - 1)) (c.inv-round-next.ensures ∙ ap (inv_round c.loop-i.s) (c.round-key.ensures ∙ ap (round_key w) (sym here)))
+    ap (inv_rounds w (j - 1)) (c.inv_round-next.ensures ∙ ap (inv_round c.loop-i.s) (c.round_key.ensures ∙ ap (round_key w) (sym here)))
     ∙ inv_rounds_more w (j - 1) c.loop-i.s
     ∙ ap (λ (n : ℕ). inv_rounds w n c.loop-i.s) here
     ∙ c.loop-i.invariant
@@ -19,8 +19,8 @@ unfolding inv_cipher
 returns c = λ b start.
     let w : List ℕ = c.args.w.now in
     let end : ◌≡◌ {A = ℕ} 0 (c.loop-i.i - 1) = omega arith in
-    c.inv-last-round.ensures
-    ∙ ap (inv_last_round c.loop-i.s) c.round-key-2.ensures
+    c.inv_last_round.ensures
+    ∙ ap (inv_last_round c.loop-i.s) c.round_key-2.ensures
     ∙ inv_rounds_none w c.loop-i.s
     ∙ ap (λ (n : ℕ). inv_rounds w n c.loop-i.s) end
     ∙ c.loop-i.invariant

@@ -14,7 +14,7 @@ loop-i-preserved c = λ b start.
     let here : c.loop-i.i - 1 + 1 ≡ c.loop-i.i = omega arith in
     let next : c.loop-i.i - 1 + 1 ≡ c.loop-i.i + 1 - 1 = omega arith in
     c.round-next.ensures
-    ∙ ap₂ round_of (c.loop-i.invariant b start) (c.round-key-in-loop-i.ensures ∙ ap (round_key w) (sym here))
+    ∙ ap₂ round_of (c.loop-i.invariant b start) (c.round_key-in-loop-i.ensures ∙ ap (round_key w) (sym here))
     ∙ rounds_more w (c.loop-i.i - 1) b
     ∙ ap (λ (n : ℕ). rounds w n b) next
 
@@ -23,5 +23,5 @@ unfolding cipher
 returns c =
     let end : c.loop-i.i - 1 ≡ c.args.nr - 1 = omega arith in
     ap (λ (s : List ℕ). last_round s (round_key c.args.w.now c.args.nr))
-    (c.loop-i.invariant c.args.block (c.xor-block-s.ensures ∙ ap (xors c.args.block) c.round-key.ensures)
+    (c.loop-i.invariant c.args.block (c.xor_block-s.ensures ∙ ap (xors c.args.block) c.round_key.ensures)
     ∙ ap (λ (n : ℕ). rounds c.args.w.now n c.args.block) end)

@@ -3,8 +3,8 @@ use Rattle.aes.specs.KeySchedule.{expanded}
 use Rattle.aes.proofs.Words.{key_words, key_expanded}
 use Rattle.aes.proofs.key_expansion.Goals as goal
 
-pub expand-words-requires : goal.expand-words-requires
-expand-words-requires g c =
+pub expand_words-requires : goal.expand_words-requires
+expand_words-requires g c =
     let words = key_words g.row.N c.requires.length in
     let long : length c.put.new.s ≡ length c.args.w.now = search rules in
     record { least = words.0; most = words.1; room = omega (arith, words.2, long, c.requires.room) }
@@ -12,6 +12,6 @@ expand-words-requires g c =
 pub returns : goal.returns
 returns g c =
     let long : length c.args.key ≡ g.row.N = search rules in
-    c.expand-words.ensures
+    c.expand_words.ensures
     ∙ ap (λ w. expanded (g.row.N / 4) (take (4 * (g.row.N / 4)) w) (3 * (g.row.N / 4) + 28)) c.put.ensures
     ∙ key_expanded g.row.N c.args.key c.args.w.now long (key_words g.row.N c.requires.length).2

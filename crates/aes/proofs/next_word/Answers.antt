@@ -6,5 +6,5 @@ use Rattle.aes.proofs.next_word.Goals as goal
 pub returns : goal.returns
 unfolding next_word
 returns c =
-    c.xor-word.ensures
-    ∙ ap₂ xors c.part-of.ensures (c.temp-word.ensures ∙ ap (temp c.args.nk c.args.i) c.part-of-2.ensures)
+    c.xor_word.ensures
+    ∙ ap₂ xors c.part_of.ensures (c.temp_word.ensures ∙ ap (temp c.args.nk c.args.i) c.part_of-2.ensures)

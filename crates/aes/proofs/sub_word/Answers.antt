@@ -6,5 +6,5 @@ use Rattle.aes.proofs.sub_word.Goals as goal
 pub returns : goal.returns
 returns c =
     let long : length c.args.a ≡ 4 = search rules in
-    (λ i. c.sub-byte.ensures i ∷ c.sub-byte-2.ensures i ∷ c.sub-byte-3.ensures i ∷ c.sub-byte-4.ensures i ∷ [])
+    (λ i. c.sub_byte.ensures i ∷ c.sub_byte-2.ensures i ∷ c.sub_byte-3.ensures i ∷ c.sub_byte-4.ensures i ∷ [])
     ∙ sym (ap sub_word (four c.args.a long))

@@ -4,4 +4,4 @@ use Rattle.cmac.proofs.double.Goals as goal
 
 pub returns : goal.returns
 unfolding dbl
-returns c = c.block-of.ensures ∙ ap (bytes_of 16) (c.times-x.ensures ∙ ap times_x c.number-of.ensures)
+returns c = c.block_of.ensures ∙ ap (bytes_of 16) (c.times_x.ensures ∙ ap times_x c.number_of.ensures)

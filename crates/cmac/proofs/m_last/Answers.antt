@@ -11,14 +11,14 @@ returns-then-full c =
     let m = c.args.m.now in
     let e = cipher 10 c.args.w.now in
     let h : length c.args.m.now ≤ 16 = omega arith in
-    c.xor-block.ensures
-    ∙ ap (λ (u : List ℕ). xors u c.subkey-key.result) (c.part-of.ensures ∙ take_all 16 m h)
-    ∙ last_whole e m c.subkey-key.result (c.subkey-key.ensures ∙ ap (λ (b : Bool). cond b (k1 e) (k2 e)) c.is-whole-full.ensures) (sym c.is-whole-full.ensures ∙ c.if-full.true)
+    c.xor_block.ensures
+    ∙ ap (λ (u : List ℕ). xors u c.subkey-key.result) (c.part_of.ensures ∙ take_all 16 m h)
+    ∙ last_whole e m c.subkey-key.result (c.subkey-key.ensures ∙ ap (λ (b : Bool). cond b (k1 e) (k2 e)) c.is_whole-full.ensures) (sym c.is_whole-full.ensures ∙ c.if-full.true)
 
 pub returns-else-full : goal.returns-else-full
 returns-else-full c =
     let m = c.args.m.now in
     let e = cipher 10 c.args.w.now in
-    c.xor-block-else-full.ensures
+    c.xor_block-else-full.ensures
     ∙ ap (λ (u : List ℕ). xors u c.subkey-key.result) c.pad.ensures
-    ∙ last_padded e m c.subkey-key.result (c.subkey-key.ensures ∙ ap (λ (b : Bool). cond b (k1 e) (k2 e)) c.is-whole-full.ensures) (sym c.is-whole-full.ensures ∙ c.if-full.false)
+    ∙ last_padded e m c.subkey-key.result (c.subkey-key.ensures ∙ ap (λ (b : Bool). cond b (k1 e) (k2 e)) c.is_whole-full.ensures) (sym c.is_whole-full.ensures ∙ c.if-full.false)

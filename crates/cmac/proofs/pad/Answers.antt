@@ -4,4 +4,4 @@ use Rattle.cmac.proofs.Padded.{padded}
 use Rattle.cmac.proofs.pad.Goals as goal
 
 pub returns : goal.returns
-returns c = c.put.ensures ∙ ap (λ (u : List ℕ). over u 0 c.args.m.now) c.one-bit-out.ensures ∙ padded c.args.m.now c.requires
+returns c = c.put.ensures ∙ ap (λ (u : List ℕ). over u 0 c.args.m.now) c.one_bit-out.ensures ∙ padded c.args.m.now c.requires

@@ -9,15 +9,15 @@ returns-then-text-ne0 c = odd c.args.text.now c.if-text-ne0.true
 pub loop-i-init : goal.loop-i-init
 loop-i-init c = ap (λ xs. after xs (decoded c.args.text.now)) c.new-out.ensures.items ∙ after_none c.args.text.now
 
-pub returns-in-default : goal.returns-in-default
-returns-in-default c =
+pub returns-in_default : goal.returns-in_default
+returns-in_default c =
     let here : 2 * c.loop-i.i + 1 < length c.args.text.now = omega arith in
-    stopped c.args.text.now (vec_items c.loop-i.out) c.loop-i.i here c.loop-i.invariant c.in-default.ensures
+    stopped c.args.text.now (vec_items c.loop-i.out) c.loop-i.i here c.loop-i.invariant c.in_default.ensures
 
 pub loop-i-preserved : goal.loop-i-preserved
 loop-i-preserved c =
     let here : 2 * c.loop-i.i + 1 < length c.args.text.now = omega arith in
-    ap (λ xs. after xs (decoded (drop (2 * (c.loop-i.i + 1)) c.args.text.now))) c.in-ok-push.ensures.items
+    ap (λ xs. after xs (decoded (drop (2 * (c.loop-i.i + 1)) c.args.text.now))) c.in_ok-push.ensures.items
     ∙ after_more c.args.text.now (vec_items c.loop-i.out) c.loop-i.i c.in-Some.b here c.loop-i.invariant c.in-Some.ensures
 
 pub returns : goal.returns

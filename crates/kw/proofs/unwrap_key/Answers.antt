@@ -8,6 +8,6 @@ pub returns : goal.returns
 unfolding key_unwrap
 returns c =
     let long : length c.args.key ≡ 32 = search rules in
-    let inverse = ap (inv_cipher 14) c.key-expansion.ensures ∙ decrypt_by c.args.key 14 (ap (λ (n : ℕ). n / 4 + 6) long) in
+    let inverse = ap (inv_cipher 14) c.key_expansion.ensures ∙ decrypt_by c.args.key 14 (ap (λ (n : ℕ). n / 4 + 6) long) in
     c.recover.ensures
-    ∙ ap recovered (c.unwrap-register.ensures ∙ ap (λ (d : List ℕ → List ℕ). unwrap_steps d 24 c.args.register.now) inverse)
+    ∙ ap recovered (c.unwrap_register.ensures ∙ ap (λ (d : List ℕ → List ℕ). unwrap_steps d 24 c.args.register.now) inverse)

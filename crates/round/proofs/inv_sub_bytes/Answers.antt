@@ -9,7 +9,7 @@ loop-i-init c = mapped_none inv_s_box c.args.s
 pub loop-i-preserved : goal.loop-i-preserved
 loop-i-preserved c =
     let here : c.loop-i.i < length c.args.s = omega arith in
-    mapped_more inv_s_box c.args.s c.loop-i.out c.loop-i.i c.inv-sub-byte.result here c.loop-i.invariant c.inv-sub-byte.ensures
+    mapped_more inv_s_box c.args.s c.loop-i.out c.loop-i.i c.inv_sub_byte.result here c.loop-i.invariant c.inv_sub_byte.ensures
 
 pub returns : goal.returns
 returns c =

@@ -9,8 +9,8 @@ unfolding mix_columns
 returns c =
     let long : length c.args.s ≡ 16 = search rules in
     (λ i.
-    c.mix_byte_lem.ensures i ∷ c.mix-byte-2.ensures i ∷ c.mix-byte-3.ensures i ∷ c.mix-byte-4.ensures i ∷
-    c.mix-byte-5.ensures i ∷ c.mix-byte-6.ensures i ∷ c.mix-byte-7.ensures i ∷ c.mix-byte-8.ensures i ∷
-    c.mix-byte-9.ensures i ∷ c.mix-byte-10.ensures i ∷ c.mix-byte-11.ensures i ∷ c.mix-byte-12.ensures i ∷
-    c.mix-byte-13.ensures i ∷ c.mix-byte-14.ensures i ∷ c.mix-byte-15.ensures i ∷ c.mix-byte-16.ensures i ∷ [])
+    c.mix_byte.ensures i ∷ c.mix_byte-2.ensures i ∷ c.mix_byte-3.ensures i ∷ c.mix_byte-4.ensures i ∷
+    c.mix_byte-5.ensures i ∷ c.mix_byte-6.ensures i ∷ c.mix_byte-7.ensures i ∷ c.mix_byte-8.ensures i ∷
+    c.mix_byte-9.ensures i ∷ c.mix_byte-10.ensures i ∷ c.mix_byte-11.ensures i ∷ c.mix_byte-12.ensures i ∷
+    c.mix_byte-13.ensures i ∷ c.mix_byte-14.ensures i ∷ c.mix_byte-15.ensures i ∷ c.mix_byte-16.ensures i ∷ [])
     ∙ sym (ap (columns mix_byte) (sixteen c.args.s long))

@@ -9,7 +9,7 @@ loop-i-init c = mapped_none s_box c.args.s
 pub loop-i-preserved : goal.loop-i-preserved
 loop-i-preserved c =
     let here : c.loop-i.i < length c.args.s = omega arith in
-    mapped_more s_box c.args.s c.loop-i.out c.loop-i.i c.sub-byte.result here c.loop-i.invariant c.sub-byte.ensures
+    mapped_more s_box c.args.s c.loop-i.out c.loop-i.i c.sub_byte.result here c.loop-i.invariant c.sub_byte.ensures
 
 pub returns : goal.returns
 returns c =

@@ -13,6 +13,6 @@ returns c =
     let ten2 : length (drop 16 c.args.key) / 4 + 6 ≡ 10 = omega (arith, h, length-drop 16 c.args.key) in
     let half : length (drop 16 c.args.key) ≤ 16 = omega (arith, h, length-drop 16 c.args.key) in
     record {
-      first = ap (cipher 10) (c.key-expansion.ensures ∙ ap key_expansion c.part-of.ensures) ∙ encrypt_by (take 16 key) 10 ten1;
-      second = ap (cipher 10) (c.key-expansion-2.ensures ∙ ap key_expansion (c.part-of-2.ensures ∙ take_all 16 (drop 16 key) half)) ∙ encrypt_by (drop 16 key) 10 ten2;
+      first = ap (cipher 10) (c.key_expansion.ensures ∙ ap key_expansion c.part_of.ensures) ∙ encrypt_by (take 16 key) 10 ten1;
+      second = ap (cipher 10) (c.key_expansion-2.ensures ∙ ap key_expansion (c.part_of-2.ensures ∙ take_all 16 (drop 16 key) half)) ∙ encrypt_by (drop 16 key) 10 ten2;
     }

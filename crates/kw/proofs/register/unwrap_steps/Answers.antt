@@ -9,7 +9,7 @@ loop-t-preserved c =
     let d = inv_cipher 14 c.args.w.now in
     let t = c.loop-t.t - 1 in
     let here : c.loop-t.t - 1 + 1 ≡ c.loop-t.t = omega arith in
-    ap (unwrap_steps d t) c.unwrap-step.ensures
+    ap (unwrap_steps d t) c.unwrap_step.ensures
     ∙ unsteps_more d t c.loop-t.s
     ∙ ap (λ (n : ℕ). unwrap_steps d n c.loop-t.s) here
     ∙ c.loop-t.invariant

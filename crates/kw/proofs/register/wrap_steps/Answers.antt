@@ -10,7 +10,7 @@ loop-t-init c = steps_none (cipher 14 c.args.w.now) c.args.s.now
 pub loop-t-preserved : goal.loop-t-preserved
 loop-t-preserved c =
     let e = cipher 14 c.args.w.now in
-    c.wrap-step.ensures
+    c.wrap_step.ensures
     ∙ ap (wrap_step e (c.loop-t.t + 1)) c.loop-t.invariant
     ∙ steps_more e c.loop-t.t c.args.s.now
 

@@ -8,4 +8,4 @@ abbrev pub invariant-loop-i : goal.invariant-loop-i
 invariant-loop-i l =
     (l.at ≤ 137 + l.-i * 70)
     × (l.at ≤ length l.bytes)
-    × (fault (length l.bytes) (wraps_fields l.sealed-len l.epoch l.nodes l.bytes l.at (l.count - l.-i)) ≡ fault (length l.bytes) (wraps_fields l.sealed-len l.epoch l.nodes l.bytes l.start l.count))
+    × (fault (length l.bytes) (wraps_fields l.sealed_len l.epoch l.nodes l.bytes l.at (l.count - l.-i)) ≡ fault (length l.bytes) (wraps_fields l.sealed_len l.epoch l.nodes l.bytes l.start l.count))

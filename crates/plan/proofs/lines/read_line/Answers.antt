@@ -8,4 +8,4 @@ returns-in-32 c =
     let line = c.args.line.now in
     let long : 2 ≤ length line = search rules in
     let space : get_or line 1 0 ≡ 32 = search rules in
-    c.request-of.ensures ∙ ap (λ choice. asked choice c.row-of.result) c.choice-of.ensures ∙ ap (asked _) c.row-of.ensures ∙ line_of_lem line long space
+    c.request_of.ensures ∙ ap (λ choice. asked choice c.row_of.result) c.choice_of.ensures ∙ ap (asked _) c.row_of.ensures ∙ line_of_lem line long space

@@ -9,5 +9,5 @@ returns c =
     let key = c.args.key in
     let z = c.args.bytes.now in
     let all : length (drop 16 c.args.bytes.now) ≤ 32 = omega (arith, length-drop 16 c.args.bytes.now) in
-    c.open-under.ensures
-    ∙ ap₂ (decrypt_parts (encrypt (take 16 key)) (encrypt (drop 16 key)) (c.args.name ∷ [])) c.part-of-v.ensures (c.part-of-ciphertext.ensures ∙ take_all 32 (drop 16 z) all)
+    c.open_under.ensures
+    ∙ ap₂ (decrypt_parts (encrypt (take 16 key)) (encrypt (drop 16 key)) (c.args.name ∷ [])) c.part_of-v.ensures (c.part_of-ciphertext.ensures ∙ take_all 32 (drop 16 z) all)

@@ -4,10 +4,10 @@ use Rattle.siv.proofs.SivWrap.seal_to.Goals as goal
 
 pub returns : goal.returns
 returns c =
-    let v = c.seal-under-v.result in
-    let t = c.seal-under-v.new.text in
-    let hv : length c.seal-under-v.result ≡ 16 = search rules in
-    let ht : length c.seal-under-v.new.text ≡ 32 = search rules in
-    let ho : length c.args.out.now ≡ 16 + length c.seal-under-v.new.text = omega (arith, ht) in
+    let v = c.seal_under-v.result in
+    let t = c.seal_under-v.new.text in
+    let hv : length c.seal_under-v.result ≡ 16 = search rules in
+    let ht : length c.seal_under-v.new.text ≡ 32 = search rules in
+    let ho : length c.args.out.now ≡ 16 + length c.seal_under-v.new.text = omega (arith, ht) in
     written_two c.args.out.now v t 16 c.put.ensures c.put-2.ensures hv ho
-    ∙ c.seal-under-v.ensures
+    ∙ c.seal_under-v.ensures

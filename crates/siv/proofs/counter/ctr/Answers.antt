@@ -7,7 +7,7 @@ use Rattle.byte_strings.proofs.Tails.{tail_added}
 use Rattle.siv.proofs.counter.ctr.Goals as goal
 
 pub loop-i-init : goal.loop-i-init
-loop-i-init c = stream_none (cipher 10 c.args.w.now) ((length c.args.text.now + 15) / 16) c.counter-start-q.result c.args.text.now
+loop-i-init c = stream_none (cipher 10 c.args.w.now) ((length c.args.text.now + 15) / 16) c.counter_start-q.result c.args.text.now
 
 pub loop-i-preserved : goal.loop-i-preserved
 loop-i-preserved c =
@@ -19,7 +19,7 @@ loop-i-preserved c =
     let before : c.loop-i.i < (length c.args.text.now + 15) / 16 = omega arith in
     let within : 16 * c.loop-i.i ≤ length c.loop-i.text = omega arith in
     let block : length c.encipher-key.result ≡ 16 = search rules in
-    ap₂ (λ (u v : List ℕ). to_come e n (i + 1) u v) c.increment-next.ensures (tail_added (16 * i) t c.encipher-key.result c.xor-into.new.s c.xor-into.ensures ∙ ap (λ (u : List ℕ). take (16 * i) t ++ xors (drop (16 * i) t) u) c.encipher-key.ensures)
+    ap₂ (λ (u v : List ℕ). to_come e n (i + 1) u v) c.increment-next.ensures (tail_added (16 * i) t c.encipher-key.result c.xor_into.new.s c.xor_into.ensures ∙ ap (λ (u : List ℕ). take (16 * i) t ++ xors (drop (16 * i) t) u) c.encipher-key.ensures)
     ∙ stream_more e n q t i before within (ap length (sym c.encipher-key.ensures) ∙ block)
     ∙ c.loop-i.invariant
 
@@ -29,5 +29,5 @@ returns c =
     let t = c.args.text.now in
     let n = (length c.args.text.now + 15) / 16 in
     let done : (length c.args.text.now + 15) / 16 ≡ c.loop-i.i = omega arith in
-    let added = stream_all e n c.loop-i.q c.loop-i.text c.loop-i.i done ∙ c.loop-i.invariant ∙ ctr_from e c.args.v t c.counter-start-q.result c.counter-start-q.ensures in
+    let added = stream_all e n c.loop-i.q c.loop-i.text c.loop-i.i done ∙ c.loop-i.invariant ∙ ctr_from e c.args.v t c.counter_start-q.result c.counter_start-q.ensures in
     record { added = added; back = ap (ctr e c.args.v) added ∙ ctr_ctr e c.args.v t }

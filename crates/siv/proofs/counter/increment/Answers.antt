@@ -5,4 +5,4 @@ use Rattle.siv.proofs.counter.increment.Goals as goal
 
 pub returns : goal.returns
 unfolding inc
-returns c = c.block-of.ensures ∙ ap (bytes_of 16) (c.plus-one.ensures ∙ ap (λ (n : ℕ). (n + 1) % 2 ^ 128) c.number-of.ensures)
+returns c = c.block_of.ensures ∙ ap (bytes_of 16) (c.plus_one.ensures ∙ ap (λ (n : ℕ). (n + 1) % 2 ^ 128) c.number_of.ensures)

@@ -7,5 +7,5 @@ pub returns : goal.returns
 returns c =
     let s = c.args.text.now in
     let d = c.args.d in
-    let e = end_added s d c.xor-into.new.s c.xor-into.ensures in
+    let e = end_added s d c.xor_into.new.s c.xor_into.ensures in
     record { added = e; back = ap (λ (u : List ℕ). xorend u d) e ∙ xorend_xorend s d }

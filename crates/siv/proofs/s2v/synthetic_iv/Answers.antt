@@ -10,7 +10,7 @@ returns-then-text-lt16 c =
     let strings = c.args.string.now ∷ [] in
     let d = c.gather-d.ensures ∙ ap (λ (u : List ℕ). gathered e u strings) c.mac.ensures in
     record {
-      iv = c.mac-padded.ensures ∙ s2v_short e strings c.args.text.now c.gather-d.result d c.if-text-lt16.true;
+      iv = c.mac_padded.ensures ∙ s2v_short e strings c.args.text.now c.gather-d.result d c.if-text-lt16.true;
       kept = refl;
     }
 
@@ -20,6 +20,6 @@ returns-else-text-lt16 c =
     let strings = c.args.string.now ∷ [] in
     let d = c.gather-d.ensures ∙ ap (λ (u : List ℕ). gathered e u strings) c.mac.ensures in
     record {
-      iv = c.mac-with-end.ensures.tag ∙ s2v_long e strings c.args.text.now c.gather-d.result d c.if-text-lt16.false;
-      kept = c.mac-with-end.ensures.kept;
+      iv = c.mac_with_end.ensures.tag ∙ s2v_long e strings c.args.text.now c.gather-d.result d c.if-text-lt16.false;
+      kept = c.mac_with_end.ensures.kept;
     }

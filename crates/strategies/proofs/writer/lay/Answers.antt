@@ -11,11 +11,11 @@ loop-turn-init g c =
     let e = plan_all g.R.Rule.rule c.args.board.now.row in
     (omega (arith, ap length e), ap (λ ps. laid 0 ps c.args.out.now) e)
 
-pub lay-content-at-requires : goal.lay-content-at-requires
-lay-content-at-requires g c =
+pub lay_content_at-requires : goal.lay_content_at-requires
+lay_content_at-requires g c =
     let rule = g.R.Rule.rule in
     let row = c.args.board.now.row in
-    record { inner = omega (arith, c.content-at-n.ensures); small = omega (arith, c.loop-turn.invariant.0, ap length (plan_all rule row), plan_short rule row 127) }
+    record { inner = omega (arith, c.content_at-n.ensures); small = omega (arith, c.loop-turn.invariant.0, ap length (plan_all rule row), plan_short rule row 127) }
 
 pub loop-turn-preserved : goal.loop-turn-preserved
 loop-turn-preserved g c =
@@ -24,19 +24,19 @@ loop-turn-preserved g c =
     let l = c.loop-turn in
     let k = 127 - (l.turn + 1) in
     let here : 127 - l.turn ≡ suc k = omega (arith, c.loop-turn-test.true) in
-    let n : c.content-at-n.result ≡ suc k = c.content-at-n.ensures ∙ here in
+    let n : c.content_at-n.result ≡ suc k = c.content_at-n.ensures ∙ here in
     let this = plan_up_to rule row (127 - l.turn) in
     let next = plan_up_to rule row k in
-    let asks : c.is-changed.result ≡ changed row (suc k) = c.is-changed.ensures ∙ ap (changed row) n in
-    elim c.if-is-changed.branch [
+    let asks : c.is_changed.result ≡ changed row (suc k) = c.is_changed.ensures ∙ ap (changed row) n in
+    elim c.if-is_changed.branch [
       | then-is-changed w ↦
-          left_less 0 (plan rule row) c.args.out.now l.at c.if-is-changed.at (pairs_for rule row (suc k)) this next l.out c.if-is-changed.out
-          (ap (plan_up_to rule row) here ∙ plan_yes rule row k (sym asks ∙ w.if-is-changed.true))
-          (w.at-is ∙ w.lay-content-at.ensures.end ∙ ap (λ i. l.at + length (pairs_for rule row i)) n)
-          (w.out-is ∙ w.lay-content-at.ensures.written ∙ ap (λ i. laid l.at (pairs_for rule row i) l.out) n) l.invariant
+          left_less 0 (plan rule row) c.args.out.now l.at c.if-is_changed.at (pairs_for rule row (suc k)) this next l.out c.if-is_changed.out
+          (ap (plan_up_to rule row) here ∙ plan_yes rule row k (sym asks ∙ w.if-is_changed.true))
+          (w.at-is ∙ w.lay_content_at.ensures.end ∙ ap (λ i. l.at + length (pairs_for rule row i)) n)
+          (w.out-is ∙ w.lay_content_at.ensures.written ∙ ap (λ i. laid l.at (pairs_for rule row i) l.out) n) l.invariant
       | else-is-changed w ↦
-          left_same 0 (plan rule row) c.args.out.now l.at c.if-is-changed.at this next l.out c.if-is-changed.out
-          (ap (plan_up_to rule row) here ∙ plan_no rule row k (sym asks ∙ w.if-is-changed.false)) w.at-is w.out-is l.invariant
+          left_same 0 (plan rule row) c.args.out.now l.at c.if-is_changed.at this next l.out c.if-is_changed.out
+          (ap (plan_up_to rule row) here ∙ plan_no rule row k (sym asks ∙ w.if-is_changed.false)) w.at-is w.out-is l.invariant
     ]
 
 pub returns : goal.returns

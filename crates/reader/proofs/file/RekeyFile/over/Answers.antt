@@ -6,6 +6,6 @@ use Rattle.reader.proofs.file.RekeyFile.over.Goals as goal
 pub invariant-of-result : goal.invariant-of-result
 invariant-of-result g c =
     let bs = c.args.bytes.now in
-    let whole : accepted c.sealed-len.result c.args.bytes.now ≡ true = ap (λ n. accepted n bs) c.sealed-len.ensures ∙ c.requires in
-    let h = laid c.sealed-len.result bs whole in
-    (whole, (omega (arith, c.sealed-len.ensures, g.met.W.Wrap.length_range.1), (h.few_nodes, (h.few_wraps, (h.size, tt)))))
+    let whole : accepted c.sealed_len.result c.args.bytes.now ≡ true = ap (λ n. accepted n bs) c.sealed_len.ensures ∙ c.requires in
+    let h = laid c.sealed_len.result bs whole in
+    (whole, (omega (arith, c.sealed_len.ensures, g.met.W.Wrap.length_range.1), (h.few_nodes, (h.few_wraps, (h.size, tt)))))

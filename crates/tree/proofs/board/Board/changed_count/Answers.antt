@@ -26,8 +26,8 @@ turn row n count count' t l e inv way =
 pub loop-n-preserved : goal.loop-n-preserved
 loop-n-preserved c =
     let l = c.loop-n in
-    turn c.args.self.now.row l.n l.count c.if-is-changed.count c.is-changed.result (omega arith) c.is-changed.ensures l.invariant
-    (elim c.if-is-changed.branch [ then-is-changed w ↦ inl (w.if-is-changed.true, w.count-is) | else-is-changed w ↦ inr (w.if-is-changed.false, w.count-is) ])
+    turn c.args.self.now.row l.n l.count c.if-is_changed.count c.is_changed.result (omega arith) c.is_changed.ensures l.invariant
+    (elim c.if-is_changed.branch [ then-is-changed w ↦ inl (w.if-is_changed.true, w.count-is) | else-is-changed w ↦ inr (w.if-is_changed.false, w.count-is) ])
 
 pub returns : goal.returns
 returns c =
