@@ -40,8 +40,8 @@ fn put(out: &mut [Pair], at: usize, pair: Pair)
 fn lay_content<R: Rule>(board: &Board, n: u8, out: &mut [Pair], start: usize) -> usize
     requires inner { n < 128 }
     requires small { start < 65536 }
-    ensures end { result ≡ start + length (pairs_for rule board.now.row n) }
-    ensures written { out.new ≡ laid start (pairs_for rule board.now.row n) out.old }
+    ensures end { result ≡ start + length (pairs_for R.rule board.now.row n) }
+    ensures written { out.new ≡ laid start (pairs_for R.rule board.now.row n) out.old }
 {
     let mut at = start;
     for place in 0..256 {
@@ -56,9 +56,9 @@ fn lay_content<R: Rule>(board: &Board, n: u8, out: &mut [Pair], start: usize) ->
 
 // The whole plan, as far as there is room; answers how many pairs it has.
 fn lay<R: Rule>(board: &Board, out: &mut [Pair]) -> usize
-    ensures count { result ≡ length (plan rule board.now.row) }
-    ensures written { out.new ≡ laid 0 (plan rule board.now.row) out.old }
-    ensures fits { result ≤ length out.old → out.new ≡ plan rule board.now.row ++ drop (length (plan rule board.now.row)) out.old }
+    ensures count { result ≡ length (plan R.rule board.now.row) }
+    ensures written { out.new ≡ laid 0 (plan R.rule board.now.row) out.old }
+    ensures fits { result ≤ length out.old → out.new ≡ plan R.rule board.now.row ++ drop (length (plan R.rule board.now.row)) out.old }
 {
     let mut at = 0;
     for turn in 0..127u8 {
@@ -72,8 +72,8 @@ fn lay<R: Rule>(board: &Board, out: &mut [Pair]) -> usize
 
 /// Writes the plan of a rule, or refuses if it does not fit.
 pub fn fill<R: Rule>(board: &Board, out: &mut [Pair]) -> Result<usize, PlanFault>
-    ensures answer { told refusal_of result ≡ plan_verdict (plan rule board.now.row) out.old }
-    ensures written { out.new ≡ plan_leaves (plan rule board.now.row) out.old }
+    ensures answer { told refusal_of result ≡ plan_verdict (plan R.rule board.now.row) out.old }
+    ensures written { out.new ≡ plan_leaves (plan R.rule board.now.row) out.old }
 {
     // With no room at all the pairs are only counted.
     let needed = lay::<R>(board, &mut []);

@@ -52,7 +52,7 @@ enum Direction {
 #[derive(Clone, Copy)]
 enum Kind {
     Rfc3394,
-    Siv,
+    Rfc5297,
 }
 
 fn kind_of(word: &str) -> Result<Kind, Bad> {

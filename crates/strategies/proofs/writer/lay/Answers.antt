@@ -4,15 +4,15 @@ use Rattle.rules.specs.Rules.{pairs_for, plan}
 use Rattle.strategies.specs.Writing.{laid}
 use Rattle.strategies.proofs.Laying.{plan_up_to, plan_all, plan_yes, plan_no, plan_none, plan_short, left_less, left_same, left_none, laid_fits}
 use Rattle.strategies.proofs.writer.lay.Goals as goal
-use Rattle.strategies.proofs.writer.lay.Goals.{then-is-changed, else-is-changed}
+use Rattle.strategies.proofs.writer.lay.Goals.{then-is_changed, else-is_changed}
 
 pub loop-turn-init : goal.loop-turn-init
 loop-turn-init g c =
     let e = plan_all g.R.Rule.rule c.args.board.now.row in
     (omega (arith, ap length e), ap (λ ps. laid 0 ps c.args.out.now) e)
 
-pub lay_content_at-requires : goal.lay_content_at-requires
-lay_content_at-requires g c =
+pub lay_content-at-requires : goal.lay_content-at-requires
+lay_content-at-requires g c =
     let rule = g.R.Rule.rule in
     let row = c.args.board.now.row in
     record { inner = omega (arith, c.content_at-n.ensures); small = omega (arith, c.loop-turn.invariant.0, ap length (plan_all rule row), plan_short rule row 127) }
@@ -29,12 +29,12 @@ loop-turn-preserved g c =
     let next = plan_up_to rule row k in
     let asks : c.is_changed.result ≡ changed row (suc k) = c.is_changed.ensures ∙ ap (changed row) n in
     elim c.if-is_changed.branch [
-      | then-is-changed w ↦
+      | then-is_changed w ↦
           left_less 0 (plan rule row) c.args.out.now l.at c.if-is_changed.at (pairs_for rule row (suc k)) this next l.out c.if-is_changed.out
           (ap (plan_up_to rule row) here ∙ plan_yes rule row k (sym asks ∙ w.if-is_changed.true))
-          (w.at-is ∙ w.lay_content_at.ensures.end ∙ ap (λ i. l.at + length (pairs_for rule row i)) n)
-          (w.out-is ∙ w.lay_content_at.ensures.written ∙ ap (λ i. laid l.at (pairs_for rule row i) l.out) n) l.invariant
-      | else-is-changed w ↦
+          (w.at-is ∙ w.lay_content-at.ensures.end ∙ ap (λ i. l.at + length (pairs_for rule row i)) n)
+          (w.out-is ∙ w.lay_content-at.ensures.written ∙ ap (λ i. laid l.at (pairs_for rule row i) l.out) n) l.invariant
+      | else-is_changed w ↦
           left_same 0 (plan rule row) c.args.out.now l.at c.if-is_changed.at this next l.out c.if-is_changed.out
           (ap (plan_up_to rule row) here ∙ plan_no rule row k (sym asks ∙ w.if-is_changed.false)) w.at-is w.out-is l.invariant
     ]

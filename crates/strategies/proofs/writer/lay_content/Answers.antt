@@ -5,8 +5,8 @@ use Rattle.strategies.proofs.Laying.{pairs_from, pairs_all, pairs_yes, pairs_no,
 use Rattle.strategies.proofs.writer.lay_content.Goals as goal
 use Rattle.strategies.proofs.writer.lay_content.Goals.{then-serves, else-serves}
 
-pub overflow-add-at : goal.overflow-add-at
-overflow-add-at g c = record { fits = omega (arith, c.loop-place.invariant.0, pairs_short g.R.Rule.rule c.args.board.now.row c.args.n 0, c.requires.small) }
+pub overflow_add-at : goal.overflow_add-at
+overflow_add-at g c = record { fits = omega (arith, c.loop-place.invariant.0, pairs_short g.R.Rule.rule c.args.board.now.row c.args.n 0, c.requires.small) }
 
 pub loop-place-preserved : goal.loop-place-preserved
 loop-place-preserved g c =

@@ -3,13 +3,13 @@ use Rattle.tree.specs.declared.types.Code.{Code}
 use Rattle.tree.specs.Rows.{changed}
 use Rattle.tree.proofs.Standing.{changed_up_to, changed_none, changed_yes, changed_no, changed_all}
 use Rattle.tree.proofs.board.Board.changed_count.Goals as goal
-use Rattle.tree.proofs.board.Board.changed_count.Goals.{then-is-changed, else-is-changed}
+use Rattle.tree.proofs.board.Board.changed_count.Goals.{then-is_changed, else-is_changed}
 
 pub loop-n-init : goal.loop-n-init
 loop-n-init c = (sym (ap length (changed_none c.args.self.now.row)), omega arith)
 
-pub overflow-add-count : goal.overflow-add-count
-overflow-add-count c = record { fits = omega (arith, c.loop-n.invariant.1) }
+pub overflow_add-count : goal.overflow_add-count
+overflow_add-count c = record { fits = omega (arith, c.loop-n.invariant.1) }
 
 -- one node more
 turn : (row : List Code) (n count count' : ℕ) (t : Bool) → 0 < n → t ≡ changed row n → (count ≡ length (changed_up_to row (n - 1))) × (count < n) →
@@ -27,7 +27,7 @@ pub loop-n-preserved : goal.loop-n-preserved
 loop-n-preserved c =
     let l = c.loop-n in
     turn c.args.self.now.row l.n l.count c.if-is_changed.count c.is_changed.result (omega arith) c.is_changed.ensures l.invariant
-    (elim c.if-is_changed.branch [ then-is-changed w ↦ inl (w.if-is_changed.true, w.count-is) | else-is-changed w ↦ inr (w.if-is_changed.false, w.count-is) ])
+    (elim c.if-is_changed.branch [ then-is_changed w ↦ inl (w.if-is_changed.true, w.count-is) | else-is_changed w ↦ inr (w.if-is_changed.false, w.count-is) ])
 
 pub returns : goal.returns
 returns c =
