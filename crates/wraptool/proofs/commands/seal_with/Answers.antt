@@ -10,6 +10,6 @@ returns g c =
     let kept : length c.seal.new.out ≡ 64 = search rules in
     let written : c.seal.new.out ≡ sealed ++ drop len (replicate 64 0) = search rules in
     let n : c.sealed_len-n.result - 0 ≡ g.W.Wrap.wrap_length = omega arith in
-    ap Some (sym (c.in_ok-to_vec.ensures.items-if-clones-equal (λ x y e. e)
+    ap Some (sym (c.in_ok-to_vec.ensures.items_if_clones_equal (λ x y e. e)
     ∙ ap (λ (m : ℕ). take m c.seal.new.out) n
     ∙ front len sealed (replicate 64 0) c.seal.new.out within kept written))
