@@ -1,14 +1,13 @@
 -- The key schedule is made of bytes, so AES permutes the blocks.
-use Rattle.std.proofs.Common.{◌≡◌, ℕ, zero, suc, ◌+◌, ◌-◌, ◌*◌, ◌/◌, ◌%◌, ◌<◌, Bool, true, false, cond, ◌&&◌, eqb, ltb, List, [], ◌∷◌, ◌++◌, length, drop, refl, ◌∙◌, lit<}
-use Rattle.byte_strings.specs.Strings.{Bytes, Sized, part, xors}
+use Rattle.std.proofs.Common.{◌≡◌, ℕ, zero, suc, ◌+◌, ◌-◌, ◌*◌, ◌/◌, ◌%◌, ◌<◌, Bool, true, false, cond, ◌&&◌, eqb, ltb, List, length, drop, refl, ◌∙◌, lit<}
+use Rattle.byte_strings.specs.Strings.{Bytes, part, xors}
 use Rattle.byte_strings.proofs.Xors.{xors_bytes, xors_length}
 use Rattle.byte_strings.proofs.Parts.{at_byte, append_bytes, take_bytes, drop_bytes}
-use Rattle.field.specs.Field.{x_times}
 use Rattle.field.proofs.Linear.{x_times_byte}
 use Rattle.round.specs.State.{shift_rows, sub_bytes}
 use Rattle.round.proofs.Steps.{sub_sized, shift_length}
 use Rattle.aes.specs.KeySchedule.{word, sub_word, rot_word, power_of_x, rcon, temp, next_word, expanded, key_expansion}
-use Rattle.aes.specs.Cipher.{round_key, rounds, cipher, encrypt, decrypt}
+use Rattle.aes.specs.Cipher.{round_key, rounds, cipher, encrypt}
 use Rattle.aes.specs.Laws.{Permutes}
 use Rattle.aes.proofs.Undo.{decipher_cipher, cipher_decipher, cipher_sized, decipher_sized}
 

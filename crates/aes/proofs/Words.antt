@@ -3,7 +3,7 @@ use Rattle.std.proofs.Common.{◌≡◌, ℕ, ◌+◌, ◌-◌, ◌*◌, ◌/◌
 use Rattle.std.proofs.lemmas.List.FromFn.{fill_by_all}
 use Rattle.std.proofs.lemmas.List.{take_at, take-take, drop-take, take_all, length-append, length-take-le}
 use Rattle.byte_strings.specs.Strings.{part, over, xors}
-use Rattle.aes.specs.KeySchedule.{key_length, word, temp, next_word, expanded, key_expansion}
+use Rattle.aes.specs.KeySchedule.{key_length, temp, next_word, expanded, key_expansion}
 
 pub four : (a : List ℕ) → length a ≡ 4 → a ≡ get_or a 0 0 ∷ get_or a 1 0 ∷ get_or a 2 0 ∷ get_or a 3 0 ∷ []
 four a h = fill_by_all (λ i. get_or a i 0) a 4 0 h (λ k l. refl)

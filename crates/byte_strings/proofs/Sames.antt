@@ -1,7 +1,7 @@
 -- The comparison of strings.
 use Rattle.std.proofs.Common.{◌≡◌, ℕ, zero, suc, ◌+◌, ◌<◌, ◌≤◌, Bool, true, false, ◌&&◌, eqb, List, [], ◌∷◌, length, get_or, take, sym, refl, ap, ◌∙◌, ap₂, add-one, arith, eq-eqb, ne_eqb, eqb-true}
 use mathlib.Core.Bool.{and_assoc}
-use lib.Bits.{bit_xor, bit_or, bit_and, or_add_and, and_le_r, xor_assoc, xor_self, xor_zero_r}
+use lib.Bits.{bit_xor, bit_or, or_add_and, and_le_r, xor_assoc, xor_self, xor_zero_r}
 use borrow.Author.Tests.{eqb-false}
 use Rattle.std.proofs.lemmas.List.{take_all}
 use Rattle.byte_strings.specs.Strings.{same}

@@ -1,7 +1,6 @@
 -- Exclusive or of strings: it undoes itself, keeps lengths and bytes, and goes along parts.
-use Rattle.std.proofs.Common.{◌≡◌, ℕ, zero, suc, ◌+◌, ◌<◌, ◌≤◌, min, List, [], ◌∷◌, ◌++◌, length, get_or, take, drop, set, sym, refl, ap, ◌∙◌, ap₂, append-nil, add-one, arith}
+use Rattle.std.proofs.Common.{◌≡◌, ℕ, zero, suc, ◌+◌, ◌<◌, ◌≤◌, min, List, [], ◌∷◌, ◌++◌, length, get_or, take, drop, set, sym, refl, ap, ◌∙◌, ap₂, add-one, arith}
 use lib.Bits.{bit_xor, xor_zero_r, xor_self, xor_assoc, xor_lt}
-use Rattle.std.proofs.lemmas.List.{take_all, drop_all}
 use Rattle.byte_strings.specs.Strings.{Bytes, Sized, xors}
 use Rattle.byte_strings.proofs.Writes.{write_more, read_here}
 

@@ -1,5 +1,5 @@
 -- The padding as the code writes it.
-use Rattle.std.proofs.Common.{◌≡◌, ℕ, ◌+◌, ◌-◌, ◌<◌, List, ◌∷◌, ◌++◌, length, drop, set, replicate, ap, ◌∙◌, arith}
+use Rattle.std.proofs.Common.{◌≡◌, ℕ, ◌+◌, ◌-◌, ◌<◌, List, ◌∷◌, ◌++◌, length, set, replicate, ap, ◌∙◌, arith}
 use Rattle.std.proofs.lemmas.List.{drop-set, drop-replicate, length-replicate}
 use Rattle.byte_strings.specs.Strings.{over}
 use Rattle.cmac.specs.Cmac.{padding}

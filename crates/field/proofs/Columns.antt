@@ -3,9 +3,9 @@ use mathlib.Core.Path.{◌≡◌, refl}
 use Prim.Native.Nat.{ℕ, ◌<◌}
 use lib.Bits.{bit_xor, xor_lt}
 use lib.Dec.{lit<}
-use Rattle.field.specs.Field.{x_times, sum_of_bits, product, mix_byte, inv_mix_byte}
+use Rattle.field.specs.Field.{sum_of_bits, product, mix_byte, inv_mix_byte}
 use Rattle.field.proofs.Tests.{agree}
-use Rattle.field.proofs.Linear.{OfColumn, Linear, first, second, third, fourth, sum, times, after, sum_linear, times_linear, after_linear, alike, product_byte}
+use Rattle.field.proofs.Linear.{Linear, first, second, third, fourth, sum, times, after, sum_linear, times_linear, after_linear, alike, product_byte}
 
 first_linear : Linear first
 first_linear a b c d a' b' c' d' = refl

@@ -1,11 +1,10 @@
 -- The rule at each entry of the two tables, by one computed test over each.
 use mathlib.Core.Path.{◌≡◌}
-use mathlib.Core.Bool.{Bool}
 use mathlib.Core.List.{List}
 use Prim.Native.Nat.{ℕ, ◌<◌}
 use lib.Dec.{T, eqb, eqb→eq}
 use lib.ListN.{length, get_or}
-use Rattle.field.specs.Field.{x_times, sum_of_bits, product, even_power, inverse, rotl, affine, inv_affine, s_box, inv_s_box}
+use Rattle.field.specs.Field.{sum_of_bits, product, even_power, inverse, rotl, affine, inv_affine, s_box, inv_s_box}
 use Rattle.field.specs.Tables.{s_box_table, inv_s_box_table}
 use Rattle.field.proofs.Tests.{every, at}
 

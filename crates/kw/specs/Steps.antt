@@ -1,9 +1,9 @@
 -- The steps of the register undo each other.
-use Rattle.std.specs.Prelude.{◌≡◌, ℕ, zero, suc, ◌+◌, ◌<◌, ◌≤◌, List, ◌++◌, length, take, drop}
+use Rattle.std.specs.Prelude.{◌≡◌, ℕ, zero, suc, ◌+◌, ◌<◌, List, ◌++◌, length, take, drop}
 use Rattle.std.proofs.Math.Path.{refl, ap, ap₂}
 use Rattle.std.proofs.Common.{sym, ◌∙◌, add-one, lit<, lit≤}
 use native.Mathlib.Omega.{arith}
-use Rattle.std.proofs.lemmas.List.{take-append-drop, take_all, length-drop, length-append, take_at, drop_at, append_assoc, drop-drop}
+use Rattle.std.proofs.lemmas.List.{take-append-drop, length-append, take_at, append_assoc, drop-drop}
 use Rattle.byte_strings.specs.Strings.{Bytes, Sized, xors}
 use Rattle.byte_strings.proofs.Parts.{take_sized, drop_sized, append_sized, part_sized, two_parts, last_part, middle_part}
 use Rattle.byte_strings.proofs.Xors.{xors_xors, xors_sized}

@@ -1,5 +1,5 @@
 -- The refusals of a key wrap: the number of each, and the values that are told with it.
-use Rattle.std.specs.Prelude.{List, [], ◌∷◌}
+use Rattle.std.specs.Prelude.{[], ◌∷◌}
 use Rattle.refusal.specs.Refusals.{Refusal, no}
 use Rattle.wrap.specs.declared.fault.WrapFault.{WrapFault}
 use Rattle.wrap.specs.declared.fault.WrapFault.TheVariants.{ShortWorking, ShortBuffer, DoesNotOpen}

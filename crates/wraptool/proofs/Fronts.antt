@@ -1,5 +1,5 @@
 -- What stands at the front of a buffer after a sealing.
-use Rattle.std.proofs.Common.{◌≡◌, ℕ, ◌≤◌, List, ◌++◌, length, take, drop, sym, ap, ◌∙◌, arith}
+use Rattle.std.proofs.Common.{◌≡◌, ℕ, ◌≤◌, List, ◌++◌, length, take, drop, ap, ◌∙◌, arith}
 use Rattle.std.proofs.lemmas.List.{take_at, length-append, length-drop}
 
 -- a buffer keeps its length, so the bytes in front of its tail are as many as the wrap says

@@ -1,5 +1,5 @@
 -- What the tool's answers are made of.
-use Rattle.std.specs.Prelude.{◌≡◌, ℕ, cond, List, [], length, Some, None, vec_items, Option, ◌==◌}
+use Rattle.std.specs.Prelude.{◌≡◌, ℕ, cond, List, length, Some, None, vec_items, Option, ◌==◌}
 use Rattle.wraptool.specs.declared.commands.Answer.{Answer}
 use Rattle.wraptool.specs.declared.commands.Answer.TheVariants.{Bytes, Refused}
 use Rattle.wraptool.specs.declared.commands.AesKey.{AesKey}

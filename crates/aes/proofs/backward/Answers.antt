@@ -1,4 +1,4 @@
-use Rattle.std.proofs.Common.{◌≡◌, ℕ, ◌+◌, ◌-◌, List, sym, ap, ◌∙◌, ap₂, arith}
+use Rattle.std.proofs.Common.{◌≡◌, ℕ, ◌+◌, ◌-◌, List, sym, ap, ◌∙◌, arith}
 use Rattle.round.specs.Rounds.{inv_round, inv_last_round}
 use Rattle.aes.specs.Cipher.{inv_rounds, round_key, inv_cipher}
 use Rattle.aes.proofs.Turns.{inv_rounds_none, inv_rounds_more}

@@ -1,4 +1,4 @@
-use Rattle.std.proofs.Common.{◌≡◌, ℕ, List, ap, ◌∙◌, ap₂}
+use Rattle.std.proofs.Common.{ap, ◌∙◌, ap₂}
 use Rattle.byte_strings.specs.Strings.{xors}
 use Rattle.aes.specs.KeySchedule.{temp, next_word}
 use Rattle.aes.proofs.next_word.Goals as goal

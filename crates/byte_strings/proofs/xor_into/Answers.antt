@@ -1,4 +1,4 @@
-use Rattle.std.proofs.Common.{◌≡◌, ◌<◌, min, length, ◌∙◌, arith}
+use Rattle.std.proofs.Common.{◌≡◌, ◌<◌, min, length, arith}
 use Rattle.byte_strings.proofs.Xors.{front_none, front_more, front_all}
 use Rattle.byte_strings.proofs.xor_into.Goals as goal
 

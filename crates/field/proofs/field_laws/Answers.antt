@@ -1,5 +1,3 @@
-use mathlib.Core.Path.{refl}
-use Rattle.field.specs.Field.{x_times, sum_of_bits, product, even_power, inverse, rotl, affine, s_box}
 use Rattle.field.proofs.Boxes.{inv_s_box_undoes, s_box_undoes, inverse_inverts, box_examples}
 use Rattle.field.proofs.Columns.{inv_mix_mix, mix_inv_mix}
 use Rattle.field.proofs.Linear.{product_xor}

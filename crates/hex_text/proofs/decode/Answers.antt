@@ -1,4 +1,4 @@
-use Rattle.std.proofs.Common.{◌≡◌, ℕ, ◌+◌, ◌*◌, ◌<◌, ◌≤◌, List, [], ◌∷◌, ◌++◌, length, drop, Some, None, vec_items, sym, ap, ◌∙◌, arith, rules}
+use Rattle.std.proofs.Common.{◌+◌, ◌*◌, ◌<◌, ◌≤◌, length, drop, vec_items, ap, ◌∙◌, arith}
 use Rattle.hex_text.specs.Digits.{decoded}
 use Rattle.hex_text.proofs.Decoding.{after, after_none, after_more, after_all, stopped, odd}
 use Rattle.hex_text.proofs.decode.Goals as goal

@@ -1,4 +1,4 @@
-use Rattle.std.proofs.Common.{◌≡◌, ◌<◌, ◌≤◌, length, arith}
+use Rattle.std.proofs.Common.{◌<◌, ◌≤◌, length, arith}
 use Rattle.field.specs.Field.{s_box}
 use Rattle.round.proofs.Each.{mapped_none, mapped_more, mapped_all}
 use Rattle.round.proofs.sub_bytes.Goals as goal

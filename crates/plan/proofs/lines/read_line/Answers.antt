@@ -1,4 +1,4 @@
-use Rattle.std.proofs.Common.{◌≡◌, ◌≤◌, length, get_or, ap, ◌∙◌, arith, rules}
+use Rattle.std.proofs.Common.{◌≡◌, ◌≤◌, length, get_or, ap, ◌∙◌, rules}
 use Rattle.plan.specs.Reading.{asked}
 use Rattle.plan.proofs.Asking.{line_of_lem}
 use Rattle.plan.proofs.lines.read_line.Goals as goal

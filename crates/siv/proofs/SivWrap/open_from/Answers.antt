@@ -1,7 +1,7 @@
 use Rattle.std.proofs.Common.{◌≤◌, [], ◌∷◌, length, take, drop, ◌∙◌, ap₂, arith}
 use Rattle.std.proofs.lemmas.List.{length-drop, take_all}
 use Rattle.aes.specs.Cipher.{encrypt}
-use Rattle.siv.specs.Siv.{decrypt_parts, open_siv}
+use Rattle.siv.specs.Siv.{decrypt_parts}
 use Rattle.siv.proofs.SivWrap.open_from.Goals as goal
 
 pub returns : goal.returns

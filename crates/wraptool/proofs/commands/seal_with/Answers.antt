@@ -1,4 +1,4 @@
-use Rattle.std.proofs.Common.{◌≡◌, ℕ, ◌-◌, ◌≤◌, List, ◌++◌, length, take, drop, replicate, Some, vec_items, sym, ap, ◌∙◌, arith, rules}
+use Rattle.std.proofs.Common.{◌≡◌, ℕ, ◌-◌, ◌≤◌, List, ◌++◌, length, take, drop, replicate, Some, sym, ap, ◌∙◌, arith, rules}
 use Rattle.wraptool.proofs.Fronts.{front}
 use Rattle.wraptool.proofs.commands.seal_with.Goals as goal
 
