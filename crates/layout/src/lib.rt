@@ -17,8 +17,8 @@ pub use fields::lists;
 
 /// Checks that `bytes` are a rekey file with wraps of this kind.
 pub fn check<W: Wrap>(wrap: &W, bytes: &[u8]) -> Result<(), FileFault>
-    ensures answer { told refusal_of result ≡ check_verdict wrap_kind wrap_length bytes.now }
-    ensures accepts { OnOk result (accepted wrap_length bytes.now ≡ true) }
+    ensures answer { told refusal_of result ≡ check_verdict W.wrap_kind W.wrap_length bytes.now }
+    ensures accepts { OnOk result (accepted W.wrap_length bytes.now ≡ true) }
 {
     sections::check_file(bytes, wrap.kind(), wrap.sealed_len())
 }

@@ -25,9 +25,9 @@ pub struct RekeyFile<'a> {
 impl<'a> RekeyFile<'a> {
     /// The file in bytes that `check` accepted with this wrap.
     pub fn over<W: Wrap>(wrap: &W, bytes: &'a [u8]) -> RekeyFile<'a>
-        requires { accepted wrap_length bytes.now ≡ true }
+        requires { accepted W.wrap_length bytes.now ≡ true }
         ensures bytes { result.bytes.now ≡ bytes.now }
-        ensures length { result.sealed_len ≡ wrap_length }
+        ensures length { result.sealed_len ≡ W.wrap_length }
     {
         RekeyFile {
             bytes,

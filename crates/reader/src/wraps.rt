@@ -69,8 +69,8 @@ impl<'a> FileWrap<'a> {
         place: &mut [u8; 32],
         work: &mut [u8],
     ) -> Result<(), FileFault>
-        ensures answer { told refusal_of result ≡ told (with_index self.entry.index) (open_verdict wrap_length self.entry.sealed.now (opened key (wrap_name self.entry.opener self.entry.content) self.entry.sealed.now) work.old) }
-        ensures written { place.new ≡ open_leaves wrap_length self.entry.sealed.now (opened key (wrap_name self.entry.opener self.entry.content) self.entry.sealed.now) place.old work.old }
+        ensures answer { told refusal_of result ≡ told (with_index self.entry.index) (open_verdict W.wrap_length self.entry.sealed.now (W.opened key (wrap_name self.entry.opener self.entry.content) self.entry.sealed.now) work.old) }
+        ensures written { place.new ≡ open_leaves W.wrap_length self.entry.sealed.now (W.opened key (wrap_name self.entry.opener self.entry.content) self.entry.sealed.now) place.old work.old }
         ensures cleared { work.new ≡ wiped work.old }
     {
         let name = wrap_name(self.opener, self.content);

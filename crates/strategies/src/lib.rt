@@ -8,10 +8,10 @@ ghost use Rattle.rules.proofs.KeyLaw.{key_oriented_lawful};
 
 use tree::{Board, Code, Pair, PlanFault, Strategy};
 
-mod rules;
+mod serving;
 mod writer;
 
-use rules::{KeyRule, StarRule, UserRule};
+use serving::{KeyRule, StarRule, UserRule};
 use writer::fill;
 
 /// Each new key under each occupied leaf beneath its node.

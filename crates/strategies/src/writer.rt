@@ -5,7 +5,7 @@ ghost use Rattle.tree.specs.Calls.{refusal_of, plan_verdict, plan_leaves};
 ghost use Rattle.rules.specs.Rules.{pairs_for, plan};
 ghost use Rattle.strategies.specs.Writing.{laid, candidate_at};
 
-use crate::rules::Rule;
+use crate::serving::Rule;
 use tree::{Board, Opener, Pair, PlanFault};
 
 // The inner nodes by falling number: 127 at turn 0, the root at turn 126.

@@ -3,8 +3,8 @@ use Rattle.rekey.specs.Layout.{accepted}
 use Rattle.reader.proofs.Laid.{laid}
 use Rattle.reader.proofs.file.RekeyFile.over.Goals as goal
 
-pub invariant-of-result : goal.invariant-of-result
-invariant-of-result g c =
+pub invariant_of-result : goal.invariant_of-result
+invariant_of-result g c =
     let bs = c.args.bytes.now in
     let whole : accepted c.sealed_len.result c.args.bytes.now ≡ true = ap (λ n. accepted n bs) c.sealed_len.ensures ∙ c.requires in
     let h = laid c.sealed_len.result bs whole in
