@@ -1,5 +1,5 @@
 -- Parts of the check, one after the other: the first that is refused decides.
-use Rattle.std.proofs.Common.{◌≡◌, ℕ, true, Some, None, Ok, Err, Option, Result, sym, refl, ap, ◌∙◌, arith}
+use Rattle.std.proofs.Common.{◌≡◌, ℕ, Some, None, Ok, Err, Option, Result, sym, refl, ap, ◌∙◌, arith}
 use Rattle.refusal.specs.Refusals.{told}
 use Rattle.std.specs.Option.{option_or}
 use Rattle.layout.specs.declared.fault.FileFault.{FileFault}

@@ -8,7 +8,7 @@ use Rattle.rekey.specs.Layout.{head_fields, node_fields, count_fields, wraps_fie
 use Rattle.layout.specs.declared.fault.FileFault.{FileFault}
 use Rattle.layout.specs.Judging.{judged, Checked}
 use Rattle.layout.specs.Refusals.{refusal_of}
-use Rattle.layout.proofs.Faults.{parts, at_values}
+use Rattle.layout.proofs.Faults.{at_values}
 use Rattle.layout.proofs.Judged.{passed, stopped, goes_on, told_place}
 
 abbrev pub whole : ℕ → ℕ → List ℕ → Result (Unit {0}) FileFault

@@ -1,11 +1,11 @@
 -- How many nodes, wraps and bytes an accepted file has, and where its wraps stand.
-use Rattle.std.proofs.Common.{◌≡◌, ℕ, zero, suc, ◌+◌, ◌*◌, ◌<◌, ◌≤◌, Bool, true, not, List, length, take, drop, is_some, Some, None, Option, sym, refl, ap, ◌∙◌, mul-le-mul_right, suc-mul, add-mul, arith}
+use Rattle.std.proofs.Common.{◌≡◌, ℕ, zero, suc, ◌+◌, ◌*◌, ◌<◌, ◌≤◌, true, not, List, length, take, drop, is_some, Some, None, Option, sym, refl, ap, ◌∙◌, mul-le-mul_right, suc-mul, add-mul, arith}
 use Rattle.std.specs.List.{slice_get}
 use Rattle.std.specs.Option.{option_or}
 use Rattle.byte_strings.specs.Numbers.{byte_at, number4}
 use Rattle.rekey.specs.Fields.{fault}
 use Rattle.rekey.specs.Files.{file_size}
-use Rattle.rekey.specs.Layout.{head_fields, node_fields, count_fields, wrap_fields, wraps_fields, wrap_count, layout_fault, accepted}
+use Rattle.rekey.specs.Layout.{head_fields, wrap_fields, wraps_fields, wrap_count, accepted}
 use Rattle.rekey.specs.Reading.{wrap_at, wraps_from}
 use Rattle.layout.proofs.Faults.{fault_++, at_values, count_ends}
 

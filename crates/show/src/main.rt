@@ -17,8 +17,8 @@ use wrap::Wrap;
 
 // The place of the first fault; a check is refused for nothing else.
 fn first_fault<W: Wrap>(wrap: &W, bytes: &[u8]) -> Option<usize>
-    ensures place { result ≡ layout_fault wrap_kind wrap_length bytes.now }
-    ensures accepts { IfNone result (accepted wrap_length bytes.now ≡ true) }
+    ensures place { result ≡ layout_fault W.wrap_kind W.wrap_length bytes.now }
+    ensures accepts { IfNone result (accepted W.wrap_length bytes.now ≡ true) }
 {
     match check(wrap, bytes) {
         Ok(()) => None,

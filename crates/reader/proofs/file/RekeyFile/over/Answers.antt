@@ -8,4 +8,4 @@ invariant_of-result g c =
     let bs = c.args.bytes.now in
     let whole : accepted c.sealed_len.result c.args.bytes.now ≡ true = ap (λ n. accepted n bs) c.sealed_len.ensures ∙ c.requires in
     let h = laid c.sealed_len.result bs whole in
-    (whole, (omega (arith, c.sealed_len.ensures, g.met.W.Wrap.length_range.1), (h.few_nodes, (h.few_wraps, (h.size, tt)))))
+    record { laid = whole; short = omega (arith, c.sealed_len.ensures, g.met.W.Wrap.length_range.1); few_nodes = h.few_nodes; few_wraps = h.few_wraps; size = h.size }
