@@ -5,7 +5,7 @@ ghost use Rattle.std.specs.Prelude.{◌≡◌, length};
 ghost use Rattle.kw.specs.Wrapping.{key_wrap, key_unwrap};
 ghost use Rattle.aes.proofs.Permuting.{permutes};
 ghost use Rattle.kw.specs.Lawful.{wrap_sized, unwrap_wrap, unwrap_only};
-ghost use Rattle.std.proofs.Common.{rules};
+ghost use Rattle.std.proofs.Common.{lit≤};
 
 use aes::key_expansion;
 use wrap::Wrap;
@@ -58,9 +58,9 @@ impl Wrap for KeyWrap {
 
     ghost opened = { λ key name bytes. key_unwrap key bytes };
 
-    ghost kind_range = { Prim.search rules };
+    ghost kind_range = { (lit≤ tt, lit≤ tt) };
 
-    ghost length_range = { Prim.search rules };
+    ghost length_range = { (lit≤ tt, lit≤ tt) };
 
     ghost sealed_sized = { λ k n c hk hn hc. wrap_sized k (permutes k hk.1) c hc };
 

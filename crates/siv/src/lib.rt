@@ -6,7 +6,7 @@ ghost use Rattle.aes.specs.Cipher.{cipher, encrypt};
 ghost use Rattle.siv.specs.Siv.{siv_encrypt, accepted, decrypt_parts, text_or, siv, open_siv};
 ghost use Rattle.siv.specs.Laws.{SivExact};
 ghost use Rattle.siv.specs.Lawful.{siv_sized, open_siv_lem, open_only};
-ghost use Rattle.std.proofs.Common.{rules};
+ghost use Rattle.std.proofs.Common.{lit≤};
 
 use aes::key_expansion;
 use byte_strings::{equal, part_of, put};
@@ -126,9 +126,9 @@ impl Wrap for Siv {
 
     ghost opened = { λ key name bytes. open_siv key (name ∷ []) bytes };
 
-    ghost kind_range = { Prim.search rules };
+    ghost kind_range = { (lit≤ tt, lit≤ tt) };
 
-    ghost length_range = { Prim.search rules };
+    ghost length_range = { (lit≤ tt, lit≤ tt) };
 
     ghost sealed_sized = { λ k n c hk hn hc. siv_sized k n c hk hn.1 hc };
 
