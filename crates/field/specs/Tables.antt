@@ -1,4 +1,4 @@
--- The two tables as the code keeps them, for its look-ups to be compared with; what they ought to hold is sBox and invSBox.
+-- The two tables as the code keeps them, for its look-ups to be compared with; what they ought to hold is s_box and inv_s_box.
 use Rattle.std.specs.Prelude.{List, [], ◌∷◌, ℕ}
 
 abbrev pub s_box_table : List ℕ
