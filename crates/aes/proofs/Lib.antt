@@ -2,4 +2,3 @@ pub mod Words
 pub mod Turns
 pub mod Undo
 pub mod Permuting
-pub mod Keyed

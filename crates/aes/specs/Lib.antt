@@ -1,3 +1,4 @@
 pub mod KeySchedule
 pub mod Cipher
+pub mod Keyed
 pub mod Laws

@@ -1,3 +1,5 @@
+pub mod Arrays
+pub mod Chunks
 pub mod Writes
 pub mod Xors
 pub mod Sames

@@ -1,9 +1,9 @@
 -- The comparison of strings.
-use Rattle.std.proofs.Common.{◌≡◌, ℕ, zero, suc, ◌+◌, ◌<◌, ◌≤◌, Bool, true, false, ◌&&◌, eqb, List, [], ◌∷◌, length, get_or, take, sym, refl, ap, ◌∙◌, ap₂, add-one, arith, eq-eqb, ne_eqb, eqb-true}
-use mathlib.Core.Bool.{and_assoc}
+use Rattle.std.proofs.Common.{◌≡◌, ℕ, zero, suc, Bool, true, false, ◌&&◌, eqb, List, [], ◌∷◌, length, sym, refl, ap, ◌∙◌, ap₂, arith, eq-eqb, ne_eqb, eqb-true}
+use mathlib.Core.Bool.{and_assoc, and-true}
 use lib.Bits.{bit_xor, bit_or, or_add_and, and_le_r, xor_assoc, xor_self, xor_zero_r}
 use borrow.Author.Tests.{eqb-false}
-use Rattle.std.proofs.lemmas.List.{take_all}
+use Rattle.std.specs.List.{fold, zip}
 use Rattle.byte_strings.specs.Strings.{same}
 
 and_both : (a b : Bool) → a && b ≡ true → (a ≡ true) × (b ≡ true)
@@ -29,7 +29,7 @@ unlike xs ys n = go (same xs ys) refl
     go false e = refl
     go true e = absurd (n (same_lists xs ys e))
 
--- the loop that gathers the differences
+-- the bits in which pairs of bytes differ, gathered
 
 nonzero : (d z : ℕ) → bit_or (suc d) z ≡ 0 → ⊥
 nonzero d z e = omega (arith, and_le_r (suc d) z, or_add_and (suc d) z)
@@ -50,25 +50,18 @@ gathered (suc d) x y =
     ne_eqb (bit_or (suc d) (bit_xor x y)) 0 (nonzero d (bit_xor x y))
     ∙ ap (λ (t : Bool). t && eqb x y) (sym (ne_eqb (suc d) 0 (λ e. omega arith)))
 
-same_suc : (a b : List ℕ) (i : ℕ) → i < length a → i < length b → same (take (suc i) a) (take (suc i) b) ≡ same (take i a) (take i b) && eqb (get_or a i 0) (get_or b i 0)
-same_suc [] b i h k = absurd (omega arith)
-same_suc (x ∷ a) [] i h k = absurd (omega arith)
-same_suc (x ∷ a) (y ∷ b) zero h k = and_true (eqb x y)
-  where
-    and_true : (t : Bool) → t && true ≡ t
-    and_true true = refl
-    and_true false = refl
-same_suc (x ∷ a) (y ∷ b) (suc i) h k =
-    ap (λ (t : Bool). eqb x y && t) (same_suc a b i (omega arith) (omega arith)) ∙ sym (and_assoc (eqb x y) (same (take i a) (take i b)) (eqb (get_or a i 0) (get_or b i 0)))
+-- the bits gathered so far are none, and the strings are the same
+gathered_all : (d : ℕ) (a b : List ℕ) → length a ≡ length b → eqb (fold (λ bits p. bit_or bits (bit_xor p.0 p.1)) d (zip a b)) 0 ≡ eqb d 0 && same a b
+gathered_all d [] [] h = sym (and-true (eqb d 0))
+gathered_all d [] (y ∷ b) h = absurd (omega arith)
+gathered_all d (x ∷ a) [] h = absurd (omega arith)
+gathered_all d (x ∷ a) (y ∷ b) h =
+    gathered_all (bit_or d (bit_xor x y)) a b (omega arith)
+    ∙ ap (λ (t : Bool). t && same a b) (gathered d x y)
+    ∙ and_assoc (eqb d 0) (eqb x y) (same a b)
 
-pub same_more : (a b : List ℕ) (i d : ℕ) → i < length a → i < length b → eqb d 0 ≡ same (take i a) (take i b) → eqb (bit_or d (bit_xor (get_or a i 0) (get_or b i 0))) 0 ≡ same (take (i + 1) a) (take (i + 1) b)
-same_more a b i d h k e =
-    gathered d (get_or a i 0) (get_or b i 0)
-    ∙ ap (λ (t : Bool). t && eqb (get_or a i 0) (get_or b i 0)) e
-    ∙ sym (ap (λ (n : ℕ). same (take n a) (take n b)) (add-one i) ∙ same_suc a b i h k)
-
-pub same_all : (a b : List ℕ) (i d : ℕ) → length a ≤ i → length b ≤ i → eqb d 0 ≡ same (take i a) (take i b) → eqb d 0 ≡ same a b
-same_all a b i d h k e = e ∙ ap₂ same (take_all i a h) (take_all i b k)
+pub same_gathered : (a b : List ℕ) (d : ℕ) → length a ≡ length b → d ≡ fold (λ bits p. bit_or bits (bit_xor p.0 p.1)) 0 (zip a b) → eqb d 0 ≡ same a b
+same_gathered a b d h e = ap (λ (n : ℕ). eqb n 0) e ∙ gathered_all 0 a b h
 
 pub same_uneven : (a b : List ℕ) → (length a ≡ length b → ⊥) → false ≡ same a b
 same_uneven a b n = sym (unlike a b (λ e. n (ap length e)))

@@ -2,6 +2,7 @@
 #![tactic(auto)]
 
 ghost use Rattle.std.specs.Prelude.{◌≡◌, ℕ, ◌+◌, ◌≤◌, min, length, bit_or, bit_xor};
+ghost use Rattle.std.specs.List.{fold, zip};
 ghost use Rattle.byte_strings.specs.Strings.{xors, over, part, same};
 
 /// The N bytes of `s` from place `at` on.
@@ -11,7 +12,7 @@ pub fn part_of<const N: usize>(s: &[u8], at: usize) -> [u8; N]
 {
     match <[u8; N]>::try_from(&s[at..at + N]) {
         Ok(bytes) => bytes,
-        Err(_) => unreachable(),
+        Err(_) => unreachable!(),
     }
 }
 
@@ -34,37 +35,31 @@ fn shorter(a: &[u8], b: &[u8]) -> usize
 pub fn xor_into(s: &mut [u8], x: &[u8])
     ensures { s.new ≡ xors s.old x.now }
 {
+    // By index: what a slice holds after a zip of its `iter_mut` is not known to the prover.
     for i in 0..shorter(s, x) {
         s[i] ^= x[i];
     }
 }
 
-/// The exclusive or of two blocks.
-pub fn xor_block(a: [u8; 16], b: [u8; 16]) -> [u8; 16]
-    ensures { result ≡ xors a b }
+/// The exclusive or of two strings of N bytes.
+pub fn xored<const N: usize>(a: [u8; N], b: [u8; N]) -> [u8; N]
+    ensures { result ≡ xors a.entry b.entry }
 {
     let mut out = a;
     xor_into(&mut out, &b);
     out
 }
 
-// The bits in which one pair of bytes so far differs.
-fn differences(so_far: u8, x: u8, y: u8) -> u8
-    ensures { result ≡ bit_or so_far (bit_xor x y) }
+// The bits in which some pair of bytes differs.
+fn differences(a: &[u8], b: &[u8]) -> u8
+    ensures { result ≡ fold (λ bits p. bit_or bits (bit_xor p.0 p.1)) 0 (zip a.now b.now) }
 {
-    so_far | (x ^ y)
+    a.iter().zip(b).fold(0, |so_far, (x, y)| so_far | (x ^ y))
 }
 
 /// Are the two strings the same? Of two as long as each other it looks at every byte, wherever they differ.
 pub fn equal(a: &[u8], b: &[u8]) -> bool
     ensures { result ≡ same a.now b.now }
 {
-    if a.len() != b.len() {
-        return false;
-    }
-    let mut diff = 0u8;
-    for i in 0..a.len() {
-        diff = differences(diff, a[i], b[i]);
-    }
-    diff == 0
+    a.len() == b.len() && differences(a, b) == 0
 }

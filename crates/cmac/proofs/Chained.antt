@@ -1,31 +1,33 @@
--- The chain, a block at a time.
-use Rattle.std.proofs.Common.{◌≡◌, ℕ, suc, ◌+◌, ◌-◌, ◌*◌, ◌<◌, true, false, cond, List, take, drop, sym, ap, ◌∙◌, ap₂, arith}
-use Rattle.std.proofs.lemmas.List.{drop-drop}
+-- The chain as a fold over the blocks before the last.
+use Rattle.std.proofs.Common.{◌≡◌, ℕ, zero, suc, ◌+◌, ◌*◌, ◌/◌, List, length, take, drop, refl, sym, ap, ◌∙◌, arith}
+use Rattle.std.proofs.lemmas.List.{drop-drop, length-take}
+use Rattle.std.specs.List.{fold}
+use Rattle.std.specs.Simd.{first_chunks}
 use Rattle.byte_strings.specs.Strings.{xors}
-use Rattle.cmac.specs.Cmac.{zeros, k1, k2, padding, whole, m_last, chain}
+use Rattle.byte_strings.proofs.Chunks.{chunks_front}
+use Rattle.cmac.specs.Cmac.{zeros, m_last, before_last, chain, cmac}
 
-module _ (e : List ℕ → List ℕ) (m : List ℕ) where
-  pub last_whole : (k : List ℕ) → k ≡ cond (whole m) (k1 e) (k2 e) → whole m ≡ true → xors m k ≡ m_last e m
-  unfolding m_last
-  last_whole k h t = ap (xors m) h ∙ rw t
+module _ (e : List ℕ → List ℕ) where
+  -- X after so many blocks of the message
+  absorbed : List ℕ → List (List ℕ) → List ℕ
+  absorbed = fold (λ x b. e (xors x b))
 
-  pub last_padded : (k : List ℕ) → k ≡ cond (whole m) (k1 e) (k2 e) → whole m ≡ false → xors (padding m) k ≡ m_last e m
-  unfolding m_last
-  last_padded k h t = ap (xors (padding m)) h ∙ rw t
+  chain_folds : (n : ℕ) (x m : List ℕ) → e (xors (m_last e (drop (16 * n) m)) (absorbed x (first_chunks 16 n m))) ≡ chain e n x m
+  unfolding chain absorbed
+  chain_folds zero x m = refl
+  chain_folds (suc n) x m =
+      let on : 16 * suc n ≡ 16 + 16 * n = omega arith in
+      let y = e (xors x (take 16 m)) in
+      ap (λ (l : List ℕ). e (xors (m_last e l) (absorbed y (first_chunks 16 n (drop 16 m))))) (ap (λ (k : ℕ). drop k m) on ∙ sym (drop-drop (16 * n) 16 m))
+      ∙ chain_folds n y (drop 16 m)
 
-  pub chain_none : (n : ℕ) → chain e (n - 0) zeros m ≡ chain e n zeros m
-  chain_none n = let h : n - 0 ≡ n = omega arith in ap (λ (k : ℕ). chain e k zeros m) h
-
-  pub chain_more : (n i : ℕ) (x : List ℕ) → i < n → chain e (n - (i + 1)) (e (xors x (take 16 (drop (16 * i) m)))) (drop (16 * (i + 1)) m) ≡ chain e (n - i) x (drop (16 * i) m)
-  unfolding chain
-  chain_more n i x h =
-      let left : n - i ≡ suc (n - (i + 1)) = omega arith in
-      let on : 16 * i + 16 ≡ 16 * (i + 1) = omega arith in
-      sym (ap (λ (k : ℕ). chain e k x (drop (16 * i) m)) left
-      ∙ ap (chain e (n - (i + 1)) (e (xors x (take 16 (drop (16 * i) m))))) (drop-drop 16 (16 * i) m ∙ ap (λ (k : ℕ). drop k m) on))
-
-  pub chain_all : (n i : ℕ) (x : List ℕ) → n ≡ i → e (xors (m_last e (drop (16 * n) m)) x) ≡ chain e (n - i) x (drop (16 * i) m)
-  unfolding chain
-  chain_all n i x h =
-      let none : n - i ≡ 0 = omega arith in
-      sym (ap₂ (λ (k j : ℕ). chain e k x (drop (16 * j) m)) none (sym h))
+  -- the blocks that stand in the part of the message before the last
+  pub cmac_folds : (m : List ℕ) → let n = before_last (length m) in
+      e (xors (m_last e (drop (16 * n) m)) (fold (λ x b. e (xors x b)) zeros (first_chunks 16 (length (take (16 * n) m) / 16) (take (16 * n) m)))) ≡ cmac e m
+  unfolding cmac absorbed
+  cmac_folds m =
+      let n = before_last (length m) in
+      let many : length (take (16 * before_last (length m)) m) / 16 ≡ before_last (length m) = omega (arith, length-take (16 * before_last (length m)) m) in
+      ap (λ (bs : List (List ℕ)). e (xors (m_last e (drop (16 * n) m)) (absorbed zeros bs)))
+      (ap (λ (k : ℕ). first_chunks 16 k (take (16 * n) m)) many ∙ chunks_front 16 n (16 * n) m (omega arith))
+      ∙ chain_folds n zeros m

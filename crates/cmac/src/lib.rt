@@ -1,14 +1,16 @@
 //! AES-CMAC, RFC 4493.
 #![tactic(auto)]
 
-ghost use Rattle.std.specs.Prelude.{◌≡◌, ◌<◌, ◌≤◌, cond, length, slice_set};
-ghost use Rattle.aes.specs.Cipher.{cipher};
+ghost use Rattle.std.specs.Prelude.{◌≡◌, ◌<◌, ◌≤◌, length, slice_set};
+ghost use Rattle.std.specs.List.{fold};
+ghost use Rattle.aes.specs.Keyed.{enciphered};
+ghost use Rattle.byte_strings.specs.Strings.{xors};
 ghost use Rattle.cmac.specs.Blocks.{number_of, bytes_of, times_x, dbl};
-ghost use Rattle.cmac.specs.Cmac.{zeros, k1, k2, padding, whole, m_last, before_last};
+ghost use Rattle.cmac.specs.Cmac.{zeros, padding, whole, m_last, before_last};
 ghost use Rattle.cmac.specs.Cmac.{cmac as tag_of};
 
-use aes::encipher;
-use byte_strings::{part_of, put, xor_block};
+use aes::Schedule;
+use byte_strings::{part_of, put, xored};
 
 /// A block as a number, its first byte highest.
 pub fn number_of(b: [u8; 16]) -> u128
@@ -32,6 +34,7 @@ fn times_x(n: u128) -> u128
 }
 
 /// The block times x in the field of 2^128 elements.
+#[tactic(auto, unfolding(crate::specs::Blocks::dbl))]
 pub fn double(b: [u8; 16]) -> [u8; 16]
     ensures { result ≡ dbl b }
 {
@@ -64,27 +67,17 @@ fn is_whole(m: &[u8]) -> bool
     m.len() == 16
 }
 
-/// Generate_Subkey: K1 for a whole last block, K2 for a padded one.
-fn subkey(w: &[u8], is_whole: bool) -> [u8; 16]
-    requires { length w.now ≡ 176 }
-    ensures { result ≡ cond is_whole (k1 (cipher 10 w.now)) (k2 (cipher 10 w.now)) }
+/// M_last: the last block with its subkey, K1 if it is whole and K2 if it is padded.
+#[tactic(auto, unfolding(crate::specs::Cmac::m_last))]
+fn m_last(w: Schedule<'_>, m: &[u8]) -> [u8; 16]
+    requires { length m.now ≤ 16 }
+    ensures { result ≡ m_last (enciphered w.entry) m.now }
 {
-    let k1 = double(encipher(w, 10, [0; 16]));
-    if is_whole { k1 } else { double(k1) }
-}
-
-/// M_last: the last block, whole or padded, with its subkey.
-fn m_last(w: &[u8], m: &[u8]) -> [u8; 16]
-    requires schedule { length w.now ≡ 176 }
-    requires block { length m.now ≤ 16 }
-    ensures { result ≡ m_last (cipher 10 w.now) m.now }
-{
-    let full = is_whole(m);
-    let key = subkey(w, full);
-    if full {
-        xor_block(part_of::<16>(m, 0), key)
+    let k1 = double(w.encipher([0; 16]));
+    if is_whole(m) {
+        xored(part_of::<16>(m, 0), k1)
     } else {
-        xor_block(pad(m), key)
+        xored(pad(m), double(k1))
     }
 }
 
@@ -94,17 +87,23 @@ fn blocks_before_last(len: usize) -> usize
     len.saturating_sub(1) / 16
 }
 
-/// The tag of the message `m`, under the schedule `w` of a key of 16 bytes.
-pub fn mac(w: &[u8], m: &[u8]) -> [u8; 16]
-    requires { length w.now ≡ 176 }
-    ensures { result ≡ tag_of (cipher 10 w.now) m.now }
+// X after so many blocks of the message.
+fn absorb(w: Schedule<'_>, blocks: &[[u8; 16]]) -> [u8; 16]
+    ensures { result ≡ fold (λ x m. enciphered w.entry (xors x m)) zeros blocks.now }
 {
-    let n = blocks_before_last(m.len());
-    let mut x = [0u8; 16];
-    for i in 0..n {
-        let next = encipher(w, 10, xor_block(x, part_of::<16>(m, 16 * i)));
-        x = next;
-    }
-    let last = m_last(w, &m[16 * n..]);
-    encipher(w, 10, xor_block(last, x))
+    blocks.iter().copied().fold(
+        [0; 16],
+        |x, m| -> [u8; 16]
+            ensures { result ≡ enciphered w.entry (xors x m) }
+        { w.encipher(xored(x, m)) },
+    )
+}
+
+/// The tag of the message `m`, under the schedule `w`.
+pub fn mac(w: Schedule<'_>, m: &[u8]) -> [u8; 16]
+    ensures { result ≡ tag_of (enciphered w.entry) m.now }
+{
+    let (before, last) = m.split_at(16 * blocks_before_last(m.len()));
+    let x = absorb(w, before.as_chunks::<16>().0);
+    w.encipher(xored(m_last(w, last), x))
 }

@@ -21,7 +21,7 @@ const INV_SBOX: [u8; 256] = [
     0x17, 0x2b, 0x04, 0x7e, 0xba, 0x77, 0xd6, 0x26, 0xe1, 0x69, 0x14, 0x63, 0x55, 0x21, 0x0c, 0x7d,
 ];
 
-/// The entry of a byte.
+// The entry of a byte. One look-up for both tables would be no shorter, and a wrong entry would not be refused here.
 pub(crate) fn inv_s_box_entry(b: u8) -> u8
     ensures { result ≡ get_or inv_s_box_table b 0 }
 {

@@ -21,7 +21,7 @@ const SBOX: [u8; 256] = [
     0x8c, 0xa1, 0x89, 0x0d, 0xbf, 0xe6, 0x42, 0x68, 0x41, 0x99, 0x2d, 0x0f, 0xb0, 0x54, 0xbb, 0x16,
 ];
 
-/// The entry of a byte.
+// The entry of a byte. One look-up for both tables would be no shorter, and a wrong entry would not be refused here.
 pub(crate) fn s_box_entry(b: u8) -> u8
     ensures { result ≡ get_or s_box_table b 0 }
 {

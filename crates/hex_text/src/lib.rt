@@ -7,12 +7,16 @@ ghost use Rattle.hex_text.specs.Digits.{digit_value, pair_value, decoded, Declin
 
 use std::alloc::{AllocFailed, Global};
 use std::fmt;
+use thiserror::Error;
 
 /// Why a text is not bytes in hexadecimal.
-#[derive(Clone, Copy)]
+#[derive(Clone, Copy, Debug, Error)]
 pub enum HexFault {
+    #[error("odd number of digits")]
     OddCount,
+    #[error("not a hexadecimal digit")]
     NotADigit,
+    #[error("no memory for it")]
     NoMemory,
 }
 
@@ -29,6 +33,7 @@ pub fn digit(c: u8) -> Option<u8>
     ensures value { result ≡ digit_value c }
     ensures small { IfSome result (λ v. v < 16) }
 {
+    // `char::to_digit` gives a u32, which would have to be cast back.
     match c {
         b'0'..=b'9' => Some(c - b'0'),
         b'a'..=b'f' => Some(c - b'a' + 10),
@@ -50,15 +55,14 @@ fn pair(c: u8, d: u8) -> Option<u8>
 pub fn decode(heap: Global, text: &[u8]) -> Result<Vec<u8>, HexFault>
     ensures { MatchResult result (λ v. decoded text.now ≡ Some v.items) (λ f. Declined f text.now) }
 {
-    if text.len() % 2 != 0 {
+    let (pairs, odd) = text.as_chunks::<2>();
+    if !odd.is_empty() {
         return Err(HexFault::OddCount);
     }
     let mut out = Vec::new(heap);
-    for i in 0..text.len() / 2 {
-        let Some(b) = pair(text[2 * i], text[2 * i + 1]) else {
-            return Err(HexFault::NotADigit);
-        };
-        out.push(b)?;
+    for [high, low] in pairs {
+        let byte = pair(*high, *low).ok_or(HexFault::NotADigit)?;
+        out.push(byte)?;
     }
     Ok(out)
 }
@@ -69,8 +73,7 @@ pub struct Hex<'a>(pub &'a [u8]);
 
 impl fmt::Display for Hex<'_> {
     fn fmt<W: fmt::Write>(&self, f: &mut fmt::Formatter<W>) -> fmt::Result {
-        for b in self.0 {
-            let byte = *b;
+        for byte in self.0 {
             write!(f, "{byte:02x}")?;
         }
         Ok(())

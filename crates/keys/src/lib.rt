@@ -2,13 +2,23 @@
 #![tactic(auto)]
 
 ghost use Rattle.std.specs.Prelude.{◌≡◌};
-ghost use Rattle.keys.specs.Names.{wrap_name};
+ghost use Rattle.keys.specs.Names.{name_bytes, wrap_name};
 
 /// The name of a key: its node, and the epoch in which it was made.
 #[derive(Clone, Copy, PartialEq, Eq, Debug)]
 pub struct KeyName {
     pub node: u8,
     pub epoch: u32,
+}
+
+impl KeyName {
+    /// The node, and the epoch with its highest byte first.
+    pub fn to_bytes(self) -> [u8; 5]
+        ensures { result ≡ name_bytes self }
+    {
+        let [a, b, c, d] = self.epoch.to_be_bytes();
+        [self.node, a, b, c, d]
+    }
 }
 
 /// The key of a node, and the epoch in which it was made.
@@ -22,18 +32,8 @@ pub struct NodeKey {
 pub fn wrap_name(opener: KeyName, content: KeyName) -> [u8; 10]
     ensures { result ≡ wrap_name opener content }
 {
-    let o = opener.epoch.to_be_bytes();
-    let c = content.epoch.to_be_bytes();
-    [
-        opener.node,
-        o[0],
-        o[1],
-        o[2],
-        o[3],
-        content.node,
-        c[0],
-        c[1],
-        c[2],
-        c[3],
-    ]
+    let mut name = [0; 10];
+    name[..5].copy_from_slice(&opener.to_bytes());
+    name[5..].copy_from_slice(&content.to_bytes());
+    name
 }

@@ -7,15 +7,12 @@ ghost use Rattle.aes.proofs.Permuting.{permutes};
 ghost use Rattle.kw.specs.Lawful.{wrap_sized, unwrap_wrap, unwrap_only};
 ghost use Rattle.std.proofs.Common.{lit≤};
 
-use aes::key_expansion;
-use wrap::Wrap;
+use aes::Schedule;
+use wrap::{Kind, Wrap};
 
 mod register;
 
 use register::{recover, start, unwrap_register, wrap_register};
-
-/// The number of this wrap in a file.
-const KIND: u8 = 1;
 
 /// The bytes of a key schedule, which the working bytes begin with.
 const SCHEDULE: usize = 240;
@@ -23,25 +20,23 @@ const SCHEDULE: usize = 240;
 /// The bytes of a wrapped key.
 const WRAPPED: usize = 40;
 
-/// Wraps `content` over the whole of `out`, and leaves the key's schedule in `w`.
-fn wrap_key(key: [u8; 32], content: [u8; 32], out: &mut [u8], w: &mut [u8])
-    requires room { length out.old ≡ 40 }
-    requires schedule { length w.old ≡ 240 }
-    ensures { out.new ≡ key_wrap key content }
+/// Wraps `content` over `register`, and leaves the key's schedule in `w`.
+#[tactic(auto, unfolding(crate::specs::Wrapping::key_wrap))]
+fn wrap_key(key: [u8; 32], content: [u8; 32], register: &mut [u8; 40], w: &mut [u8])
+    requires { length w.old ≡ 240 }
+    ensures { register.new ≡ key_wrap key content }
 {
-    key_expansion(key, w);
-    start(content, out);
-    wrap_register(w, out);
+    start(content, register);
+    wrap_register(Schedule::expand(key, w), register);
 }
 
 /// Unwraps `register` in its place, and leaves the key's schedule in `w`.
-fn unwrap_key(key: [u8; 32], register: &mut [u8], w: &mut [u8]) -> Option<[u8; 32]>
-    requires room { length register.old ≡ 40 }
-    requires schedule { length w.old ≡ 240 }
+#[tactic(auto, unfolding(crate::specs::Wrapping::key_unwrap))]
+fn unwrap_key(key: [u8; 32], register: &mut [u8; 40], w: &mut [u8]) -> Option<[u8; 32]>
+    requires { length w.old ≡ 240 }
     ensures { result ≡ key_unwrap key register.old }
 {
-    key_expansion(key, w);
-    unwrap_register(w, register);
+    unwrap_register(Schedule::expand(key, w), register);
     recover(register)
 }
 
@@ -69,7 +64,7 @@ impl Wrap for KeyWrap {
     ghost opened_was_sealed = { λ k n z c hk hn hz o. unwrap_only k (permutes k hk.1) z c hz o };
 
     fn kind(&self) -> u8 {
-        KIND
+        u8::from(Kind::Rfc3394)
     }
 
     fn sealed_len(&self) -> usize {
@@ -84,7 +79,10 @@ impl Wrap for KeyWrap {
         out: &mut [u8],
         work: &mut [u8],
     ) {
-        wrap_key(key, content, out, &mut work[0..SCHEDULE]);
+        let Some(register) = out.as_mut_array() else {
+            unreachable!();
+        };
+        wrap_key(key, content, register, &mut work[0..SCHEDULE]);
     }
 
     fn open_from(
@@ -95,7 +93,9 @@ impl Wrap for KeyWrap {
         work: &mut [u8],
     ) -> Option<[u8; 32]> {
         let (schedule, rest) = work.split_at_mut(SCHEDULE);
-        let register = &mut rest[0..WRAPPED];
+        let Some(register) = rest.first_chunk_mut() else {
+            unreachable!();
+        };
         register.copy_from_slice(bytes);
         unwrap_key(key, register, schedule)
     }

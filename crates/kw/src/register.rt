@@ -1,14 +1,11 @@
 //! The shift register of RFC 3394: A | R[1] | R[2] | R[3] | R[4], five blocks of 64 bits.
-ghost use Rattle.std.specs.Prelude.{◌≡◌, ◌++◌, length};
+ghost use Rattle.std.specs.Prelude.{◌≡◌, ◌++◌};
+ghost use Rattle.aes.specs.Keyed.{enciphered, deciphered};
 ghost use Rattle.byte_strings.specs.Strings.{xors};
-ghost use Rattle.aes.specs.Cipher.{cipher, inv_cipher};
 ghost use Rattle.kw.specs.Wrapping.{initial_value, msb64, lsb64, word64, wrap_step, unwrap_step, wrap_steps, unwrap_steps, recovered};
 
-use aes::{decipher, encipher};
-use byte_strings::{equal, part_of, put, xor_into};
-
-/// The rounds of AES under a 32-byte key.
-const ROUNDS: usize = 14;
+use aes::Schedule;
+use byte_strings::{equal, part_of, put, xored};
 
 /// Six steps for each of the four blocks.
 const STEPS: u8 = 24;
@@ -20,7 +17,7 @@ fn initial_value() -> [u8; 8]
     [0xa6; 8]
 }
 
-/// MSB(64, block)
+/// MSB(64, block). It and LSB are the RFC's words; one function of a place would be `part_of` again.
 fn msb(block: [u8; 16]) -> [u8; 8]
     ensures { result ≡ msb64 block }
 {
@@ -38,9 +35,7 @@ fn lsb(block: [u8; 16]) -> [u8; 8]
 fn xor_count(a: [u8; 8], t: u8) -> [u8; 8]
     ensures { result ≡ xors a (word64 t) }
 {
-    let mut out = a;
-    xor_into(&mut out, &[0, 0, 0, 0, 0, 0, 0, t]);
-    out
+    xored(a, [0, 0, 0, 0, 0, 0, 0, t])
 }
 
 /// a | r
@@ -54,12 +49,10 @@ fn concat(a: [u8; 8], r: [u8; 8]) -> [u8; 16]
 }
 
 /// Step t: enciphers A | R[1], and shifts R by one block.
-fn wrap_step(w: &[u8], t: u8, s: &mut [u8])
-    requires schedule { length w.now ≡ 240 }
-    requires register { length s.old ≡ 40 }
-    ensures { s.new ≡ wrap_step (cipher 14 w.now) t s.old }
+fn wrap_step(w: Schedule<'_>, t: u8, s: &mut [u8; 40])
+    ensures { s.new ≡ wrap_step (enciphered w.entry) t s.old }
 {
-    let b = encipher(w, ROUNDS, part_of(s, 0));
+    let b = w.encipher(part_of(s, 0));
     let r: [u8; 24] = part_of(s, 16);
     put(s, 0, &xor_count(msb(b), t));
     put(s, 8, &r);
@@ -67,41 +60,18 @@ fn wrap_step(w: &[u8], t: u8, s: &mut [u8])
 }
 
 /// Step t back: deciphers (A ^ t) | R[4], and shifts R by one block.
-fn unwrap_step(w: &[u8], t: u8, s: &mut [u8])
-    requires schedule { length w.now ≡ 240 }
-    requires register { length s.old ≡ 40 }
-    ensures { s.new ≡ unwrap_step (inv_cipher 14 w.now) t s.old }
+fn unwrap_step(w: Schedule<'_>, t: u8, s: &mut [u8; 40])
+    ensures { s.new ≡ unwrap_step (deciphered w.entry) t s.old }
 {
     let a = xor_count(part_of(s, 0), t);
-    let b = decipher(w, ROUNDS, concat(a, part_of(s, 32)));
+    let b = w.decipher(concat(a, part_of(s, 32)));
     let r: [u8; 24] = part_of(s, 8);
     put(s, 0, &b);
     put(s, 16, &r);
 }
 
-fn wrap_steps(w: &[u8], count: u8, s: &mut [u8])
-    requires schedule { length w.now ≡ 240 }
-    requires register { length s.old ≡ 40 }
-    ensures { s.new ≡ wrap_steps (cipher 14 w.now) count s.old }
-{
-    for t in 0..count {
-        wrap_step(w, t + 1, s);
-    }
-}
-
-fn unwrap_steps(w: &[u8], count: u8, s: &mut [u8])
-    requires schedule { length w.now ≡ 240 }
-    requires register { length s.old ≡ 40 }
-    ensures { s.new ≡ unwrap_steps (inv_cipher 14 w.now) count s.old }
-{
-    for t in (0..count).rev() {
-        unwrap_step(w, t + 1, s);
-    }
-}
-
 /// The register before the first step.
-pub fn start(content: [u8; 32], s: &mut [u8])
-    requires { length s.old ≡ 40 }
+pub fn start(content: [u8; 32], s: &mut [u8; 40])
     ensures { s.new ≡ initial_value ++ content }
 {
     put(s, 0, &initial_value());
@@ -109,31 +79,26 @@ pub fn start(content: [u8; 32], s: &mut [u8])
 }
 
 /// All steps, under the key schedule `w`.
-pub fn wrap_register(w: &[u8], s: &mut [u8])
-    requires schedule { length w.now ≡ 240 }
-    requires register { length s.old ≡ 40 }
-    ensures { s.new ≡ wrap_steps (cipher 14 w.now) 24 s.old }
+pub fn wrap_register(w: Schedule<'_>, s: &mut [u8; 40])
+    ensures { s.new ≡ wrap_steps (enciphered w.entry) 24 s.old }
 {
-    wrap_steps(w, STEPS, s);
+    for t in 1..=STEPS {
+        wrap_step(w, t, s);
+    }
 }
 
 /// All steps back, under the key schedule `w`.
-pub fn unwrap_register(w: &[u8], s: &mut [u8])
-    requires schedule { length w.now ≡ 240 }
-    requires register { length s.old ≡ 40 }
-    ensures { s.new ≡ unwrap_steps (inv_cipher 14 w.now) 24 s.old }
+pub fn unwrap_register(w: Schedule<'_>, s: &mut [u8; 40])
+    ensures { s.new ≡ unwrap_steps (deciphered w.entry) 24 s.old }
 {
-    unwrap_steps(w, STEPS, s);
+    for t in (1..=STEPS).rev() {
+        unwrap_step(w, t, s);
+    }
 }
 
 /// What the register started with, if A is the initial value.
-pub fn recover(s: &[u8]) -> Option<[u8; 32]>
-    requires { length s.now ≡ 40 }
+pub fn recover(s: &[u8; 40]) -> Option<[u8; 32]>
     ensures { result ≡ recovered s.now }
 {
-    if equal(&s[0..8], &initial_value()) {
-        Some(part_of(s, 8))
-    } else {
-        None
-    }
+    equal(&s[0..8], &initial_value()).then_some(part_of(s, 8))
 }

@@ -1,15 +1,13 @@
 -- The whole check, from its parts: head, changed nodes, number of wraps, wraps.
-use Rattle.std.proofs.Common.{◌≡◌, ℕ, ◌+◌, ◌-◌, true, not, List, length, take, drop, is_some, IfOk, Some, None, Ok, Err, Option, Result, sym, refl, ap, ◌∙◌, arith}
+use Rattle.std.proofs.Common.{◌≡◌, ℕ, ◌+◌, true, not, List, length, take, drop, is_some, OnOk, Some, None, Ok, Err, Option, Result, sym, refl, ap, ◌∙◌, arith}
 use Rattle.std.specs.Option.{option_or}
-use Rattle.refusal.specs.Refusals.{told}
 use Rattle.byte_strings.specs.Numbers.{byte_at, number2, number4}
 use Rattle.rekey.specs.Fields.{fault}
 use Rattle.rekey.specs.Layout.{head_fields, node_fields, count_fields, wraps_fields, layout_fault, accepted}
 use Rattle.layout.specs.declared.fault.FileFault.{FileFault}
-use Rattle.layout.specs.Judging.{judged, Checked}
-use Rattle.layout.specs.Refusals.{refusal_of}
+use Rattle.layout.specs.Judging.{judged}
 use Rattle.layout.proofs.Faults.{at_values}
-use Rattle.layout.proofs.Judged.{passed, stopped, goes_on, told_place}
+use Rattle.layout.proofs.Judged.{passed, stopped, goes_on}
 
 abbrev pub whole : ℕ → ℕ → List ℕ → Result (Unit {0}) FileFault
 whole kind L bs = judged (layout_fault kind L bs) tt
@@ -25,7 +23,7 @@ module _ (kind L : ℕ) (bs : List ℕ) (epoch nodes : ℕ) where
   count_read = judged (fault (length bs) (count_fields bs (8 + nodes))) (number2 bs (8 + nodes))
 
   abbrev pub wraps_read : ℕ → Result (Unit {0}) FileFault
-  wraps_read wraps = judged (fault (length bs) (wraps_fields L epoch (take (8 + nodes - 8) (drop 8 bs)) bs (8 + nodes + 2) wraps)) tt
+  wraps_read wraps = judged (fault (length bs) (wraps_fields L epoch (take nodes (drop 8 bs)) bs (10 + nodes) wraps)) tt
 
   -- the fault of what follows the head, once the head is passed
   after : ℕ → Option ℕ
@@ -50,12 +48,7 @@ module _ (kind L : ℕ) (bs : List ℕ) (epoch nodes : ℕ) where
 
   pub wraps_decide : (wraps : ℕ) → head_read ≡ Ok (epoch, nodes) → nodes_read ≡ Ok tt → count_read ≡ Ok wraps → wraps_read wraps ≡ whole kind L bs
   unfolding after
-  wraps_decide wraps h n k =
-      let all : 8 + nodes - 8 ≡ nodes = omega arith in
-      let start : 8 + nodes + 2 ≡ 10 + nodes = omega arith in
-      ap (λ x. judged (fault (length bs) (wraps_fields L epoch (take x (drop 8 bs)) bs (8 + nodes + 2) wraps)) tt) all
-      ∙ ap (λ x. judged (fault (length bs) (wraps_fields L epoch (take nodes (drop 8 bs)) bs x wraps)) tt) start
-      ∙ ap (λ o. judged o tt) (goes_on _ _ _ _ _ k (sym (goes_on _ _ _ _ _ n (sym (after_head wraps h (passed _ _ _ k).1)))))
+  wraps_decide wraps h n k = ap (λ o. judged o tt) (goes_on _ _ _ _ _ k (sym (goes_on _ _ _ _ _ n (sym (after_head wraps h (passed _ _ _ k).1)))))
 
 -- the head of an accepted file names the kind
 same_kind : (kind : ℕ) (bs : List ℕ) → fault (length bs) (head_fields kind bs) ≡ None → byte_at bs 2 ≡ kind
@@ -71,9 +64,6 @@ accepts kind L bs e =
     let kinds = same_kind kind bs (none_first _ _ (sym (at_values kind L bs _ _ _ refl refl refl) ∙ e)) in
     ap (λ o. not (is_some o)) (ap (λ k. layout_fault k L bs) kinds ∙ e)
 
-accepts_told : (kind L : ℕ) (bs : List ℕ) (r : Result (Unit {0}) FileFault) → whole kind L bs ≡ r → IfOk r (λ _. accepted L bs ≡ true)
-accepts_told kind L bs (Ok u) e = accepts kind L bs (passed (layout_fault kind L bs) tt u e).0
+pub accepts_told : (kind L : ℕ) (bs : List ℕ) (r : Result (Unit {0}) FileFault) → r ≡ whole kind L bs → OnOk r (accepted L bs ≡ true)
+accepts_told kind L bs (Ok u) e = accepts kind L bs (passed (layout_fault kind L bs) tt u (sym e)).0
 accepts_told kind L bs (Err y) e = tt
-
-pub checked : (kind L : ℕ) (bs : List ℕ) (r : Result (Unit {0}) FileFault) → r ≡ whole kind L bs → Checked kind L bs r
-checked kind L bs r e = record { answer = ap (told refusal_of) e ∙ told_place (layout_fault kind L bs); accepts = accepts_told kind L bs r (sym e) }

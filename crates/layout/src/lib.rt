@@ -8,12 +8,14 @@ ghost use Rattle.layout.specs.Refusals.{refusal_of, check_verdict};
 
 use wrap::Wrap;
 
+mod cursor;
 mod fault;
 mod fields;
+mod head;
 mod sections;
 
 pub use fault::{FileFault, IndexedFault};
-pub use fields::lists;
+pub use head::lists;
 
 /// Checks that `bytes` are a rekey file with wraps of this kind.
 pub fn check<W: Wrap>(wrap: &W, bytes: &[u8]) -> Result<(), FileFault>

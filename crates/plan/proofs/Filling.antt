@@ -1,14 +1,10 @@
 -- A row is filled from its first cradle on, and the cradles that are not yet reached are empty.
 use Rattle.std.proofs.Common.{◌≡◌, ℕ, ◌+◌, ◌-◌, ◌<◌, ◌≤◌, List, [], ◌∷◌, ◌++◌, length, get_or, take, drop, set, replicate, Some, Ok, Err, Option, Result, sym, refl, ap, ◌∙◌, arith}
-use Rattle.std.proofs.lemmas.List.{append-nil, append_assoc, length-drop, length-replicate, take-append-drop, take_more_set, drop-drop, drop-set-lt, drop-replicate, at_drop_more, at_drop_all}
+use Rattle.std.proofs.lemmas.List.{append_assoc, length-drop, length-replicate, take_more_set, drop-drop, drop-set-lt, drop-replicate, at_drop_more}
 use Rattle.tree.specs.declared.types.Code.{Code}
 use Rattle.tree.specs.declared.types.Code.TheVariants.{Empty}
 use Rattle.plan.specs.declared.bad.Bad.{Bad}
-use Rattle.plan.specs.Reading.{code_of_digit, before, codes_at, codes_from, then_empty}
-
-before_nil : (r : Result (List Code) Bad) → before [] r ≡ r
-before_nil (Ok codes) = refl
-before_nil (Err bad) = refl
+use Rattle.plan.specs.Reading.{code_of_digit, before, codes_at, codes_from}
 
 before_append : (xs ys : List Code) (r : Result (List Code) Bad) → before (xs ++ ys) r ≡ before xs (before ys r)
 before_append xs ys (Ok codes) = ap Ok (append_assoc xs ys codes)
@@ -18,9 +14,6 @@ before_append xs ys (Err bad) = refl
 pub record Filled (digits : List ℕ) (i : ℕ) (row : List Code) : Type 0 where
   pub read : before (take i row) (codes_from (i + 1) (drop i digits)) ≡ codes_from 1 digits
   pub empty : drop i row ≡ replicate (128 - i) Empty
-
-pub filled_none : (digits : List ℕ) → Filled digits 0 (replicate 128 Empty)
-filled_none digits = record { read = before_nil (codes_from 1 digits); empty = refl }
 
 -- the next digit's code, if it has one, stands after the codes that were read
 pub filled_next : (digits : List ℕ) (i : ℕ) (row : List Code) (o : Option Code) → i < length digits → code_of_digit (get_or digits i 0) ≡ o → Filled digits i row → before (take i row) (codes_at (i + 1) o (codes_from (i + 1 + 1) (drop (i + 1) digits))) ≡ codes_from 1 digits
@@ -39,11 +32,3 @@ filled_more digits i row code h few e f =
       read = ap (λ xs. before xs rest) (take_more_set row i code within) ∙ before_append (take i row) (code ∷ []) rest ∙ filled_next digits i row (Some code) h e f;
       empty = drop-set-lt (i + 1) row i code (omega arith) ∙ sym (drop-drop 1 i row) ∙ ap (drop 1) f.empty ∙ drop-replicate 1 (128 - i) Empty ∙ ap (λ n. replicate n Empty) less;
     }
-
-pub filled_all : (digits : List ℕ) (i : ℕ) (row : List Code) → length digits ≤ i → i ≤ length digits → Filled digits i row → Ok row ≡ then_empty (128 - length digits) (codes_from 1 digits)
-filled_all digits i row past within f =
-    let empties = replicate (128 - i) Empty in
-    let end : i ≡ length digits = omega arith in
-    ap Ok (sym (take-append-drop i row) ∙ ap (λ xs. take i row ++ xs) f.empty ∙ ap (λ xs. xs ++ empties) (sym (append-nil (take i row))))
-    ∙ ap (then_empty (128 - i)) (sym (at_drop_all (λ ds. before (take i row) (codes_from (i + 1) ds)) digits i past) ∙ f.read)
-    ∙ ap (λ n. then_empty (128 - n) (codes_from 1 digits)) end

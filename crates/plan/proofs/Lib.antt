@@ -1,3 +1,1 @@
-mod Room
 mod Filling
-mod Asking

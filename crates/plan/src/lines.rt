@@ -1,6 +1,6 @@
 //! Lines: a strategy and a row of codes.
-ghost use Rattle.std.specs.Prelude.{◌≡◌, ◌-◌, ◌≤◌, length};
-ghost use Rattle.plan.specs.Reading.{choice_of, code_of_digit, codes_from, then_empty, row_of, asked, line_of};
+ghost use Rattle.std.specs.Prelude.{◌≡◌};
+ghost use Rattle.plan.specs.Reading.{choice_of, code_of_digit, row_of, line_of};
 
 use crate::bad::Bad;
 use tree::Code;
@@ -20,14 +20,18 @@ pub struct Request {
     pub row: [Code; 128],
 }
 
-fn choice_of(digit: u8) -> Result<Choice, Bad>
-    ensures { result ≡ choice_of digit }
-{
-    match digit {
-        b'1' => Ok(Choice::Star),
-        b'2' => Ok(Choice::UserOriented),
-        b'3' => Ok(Choice::KeyOriented),
-        _ => Err(Bad::UnknownStrategy),
+impl TryFrom<u8> for Choice {
+    type Error = Bad;
+
+    ghost try_from_gives = { λ digit result. result ≡ choice_of digit };
+
+    fn try_from(digit: u8) -> Result<Choice, Bad> {
+        match digit {
+            b'1' => Ok(Choice::Star),
+            b'2' => Ok(Choice::UserOriented),
+            b'3' => Ok(Choice::KeyOriented),
+            _ => Err(Bad::UnknownStrategy),
+        }
     }
 }
 
@@ -35,28 +39,10 @@ fn choice_of(digit: u8) -> Result<Choice, Bad>
 fn code_of(digit: u8) -> Option<Code>
     ensures { result ≡ code_of_digit digit }
 {
-    if digit < b'0' {
-        return None;
-    }
-    Code::from_number(digit - b'0')
+    Code::try_from(digit.checked_sub(b'0')?).ok()
 }
 
-// The codes of the first cradles; the others are empty.
-fn filled(digits: &[u8]) -> Result<[Code; 128], Bad>
-    requires { length digits.now ≤ 128 }
-    ensures { result ≡ then_empty (128 - length digits.now) (codes_from 1 digits.now) }
-{
-    let mut row = [Code::Empty; 128];
-    for i in 0..digits.len() {
-        let Some(code) = code_of(digits[i]) else {
-            return Err(Bad::NotACode { cradle: i + 1 });
-        };
-        row[i] = code;
-    }
-    Ok(row)
-}
-
-// The row of 1 to 128 digits.
+// The row of 1 to 128 digits: the codes of the first cradles; the others are empty.
 fn row_of(digits: &[u8]) -> Result<[Code; 128], Bad>
     ensures { result ≡ row_of digits.now }
 {
@@ -65,19 +51,12 @@ fn row_of(digits: &[u8]) -> Result<[Code; 128], Bad>
             codes: digits.len(),
         });
     }
-    filled(digits)
-}
-
-// The strategy, if it is known, and the row, if it is good.
-fn request_of(
-    choice: Result<Choice, Bad>,
-    row: Result<[Code; 128], Bad>,
-) -> Result<Option<Request>, Bad>
-    ensures { result ≡ asked choice row }
-{
-    let choice = choice?;
-    let row = row?;
-    Ok(Some(Request { choice, row }))
+    let mut row = [Code::Empty; 128];
+    // By index: a proof does not know what a zipped `row.iter_mut()` has written.
+    for (i, digit) in digits.iter().enumerate() {
+        row[i] = code_of(*digit).ok_or(Bad::NotACode { cradle: i + 1 })?;
+    }
+    Ok(row)
 }
 
 /// Reads a line; `None` if it is empty.
@@ -86,7 +65,10 @@ pub(crate) fn read_line(line: &[u8]) -> Result<Option<Request>, Bad>
 {
     match line {
         [] => Ok(None),
-        [strategy, b' ', digits @ ..] => request_of(choice_of(*strategy), row_of(digits)),
+        [strategy, b' ', digits @ ..] => Ok(Some(Request {
+            choice: Choice::try_from(*strategy)?,
+            row: row_of(digits)?,
+        })),
         _ => Err(Bad::Form),
     }
 }

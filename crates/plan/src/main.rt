@@ -7,8 +7,7 @@ mod bad;
 mod lines;
 
 use lines::{Choice, Request, read_line};
-use std::io;
-use std::io::{BufRead, BufReader};
+use std::io::{self, BufRead, BufReader};
 use strategies::{KeyOriented, Star, UserOriented};
 use tree::{Board, Code, Opener, Pair, Strategy};
 
@@ -20,7 +19,7 @@ fn plan_in_full<S: Strategy>(strategy: &S, row: &[Code; 128], pairs: &mut [Pair;
 {
     match strategy.plan(row, pairs) {
         Ok(count) => count,
-        Err(_) => 0,
+        Err(_) => unreachable!(),
     }
 }
 
@@ -37,33 +36,33 @@ fn show_plan<S: Strategy>(rt: &HostRuntime, strategy: &S, row: &[Code; 128]) -> 
         opener: Opener::Present(1),
         content: 1,
     }; 896];
+    // The pairs and their number: a strategy writes into lent room.
     let count = plan_in_full(strategy, row, &mut pairs);
     let changed = Board::new(row).changed_count();
     println!(rt; "changed {changed} pairs {count}")?;
-    for i in 0..count {
-        show_pair(rt, pairs[i])?;
+    for pair in &pairs[..count] {
+        show_pair(rt, *pair)?;
     }
     Ok(())
 }
 
 fn answer(rt: &HostRuntime, request: &Request) -> io::Result<()> {
+    // There are these three strategies to ask for, so a match is plainest.
     match request.choice {
-        Choice::Star => show_plan(rt, &Star, &request.row),
-        Choice::UserOriented => show_plan(rt, &UserOriented, &request.row),
-        Choice::KeyOriented => show_plan(rt, &KeyOriented, &request.row),
+        Choice::Star => show_plan(rt, &Star::default(), &request.row),
+        Choice::UserOriented => show_plan(rt, &UserOriented::default(), &request.row),
+        Choice::KeyOriented => show_plan(rt, &KeyOriented::default(), &request.row),
     }
 }
 
 fn run(rt: &HostRuntime) -> anyhow::Result<()> {
     let heap = rt.alloc();
-    let mut number = 0u64;
-    for line in BufReader::new(heap, rt.stdin())?.split(heap, b'\n') {
-        let line = line?;
-        number = number.saturating_add(1);
-        match read_line(line.as_slice()) {
+    let lines = BufReader::new(heap, rt.stdin())?.split(heap, b'\n');
+    for (i, line) in lines.enumerate() {
+        match read_line(line?.as_slice()) {
             Ok(None) => {}
             Ok(Some(request)) => answer(rt, &request)?,
-            Err(bad) => println!(rt; "bad line {number}: {bad}")?,
+            Err(bad) => println!(rt; "bad line {}: {bad}", i + 1)?,
         }
     }
     Ok(())

@@ -1,13 +1,14 @@
 -- How many nodes, wraps and bytes an accepted file has, and where its wraps stand.
-use Rattle.std.proofs.Common.{◌≡◌, ℕ, zero, suc, ◌+◌, ◌*◌, ◌<◌, ◌≤◌, true, not, List, length, take, drop, is_some, Some, None, Option, sym, refl, ap, ◌∙◌, mul-le-mul_right, suc-mul, add-mul, arith}
+use Rattle.std.proofs.Common.{◌≡◌, ℕ, zero, suc, ◌+◌, ◌-◌, ◌*◌, ◌<◌, ◌≤◌, true, not, List, ◌∷◌, length, take, drop, is_some, map, ap₂, Some, None, Option, sym, refl, ap, ◌∙◌, mul-le-mul_right, suc-mul, add-mul, arith}
 use Rattle.std.specs.List.{slice_get}
 use Rattle.std.specs.Option.{option_or}
 use Rattle.byte_strings.specs.Numbers.{byte_at, number4}
 use Rattle.rekey.specs.Fields.{fault}
 use Rattle.rekey.specs.Files.{file_size}
 use Rattle.rekey.specs.Layout.{head_fields, wrap_fields, wraps_fields, wrap_count, accepted}
-use Rattle.rekey.specs.Reading.{wrap_at, wraps_from}
+use Rattle.rekey.specs.Reading.{wrap_at, wrap_place, wraps_from}
 use Rattle.layout.proofs.Faults.{fault_++, at_values, count_ends}
+use Rattle.reader.specs.Views.{placed_at, placed_from}
 
 none_both : (a b : Option ℕ) → option_or a b ≡ None → (a ≡ None) × (b ≡ None)
 none_both None b e = (refl, e)
@@ -23,7 +24,7 @@ head_counts kind bs e = grind arith
 wraps_end : (L epoch : ℕ) (nodes bs : List ℕ) (at k : ℕ) → fault (length bs) (wraps_fields L epoch nodes bs at k) ≡ None → at + k * (6 + L) ≡ length bs
 wraps_end L epoch nodes bs at zero e = grind arith
 wraps_end L epoch nodes bs at (suc k) e =
-    let more = (none_both _ _ (sym (fault_++ (length bs) (wrap_fields L epoch nodes bs at) (wraps_fields L epoch nodes bs (at + (6 + L)) k)) ∙ e)).1 in
+    let more : fault (length bs) (wraps_fields L epoch nodes bs (at + (6 + L)) k) ≡ None = (none_both _ _ (sym (fault_++ (length bs) (wrap_fields L epoch nodes bs at) (wraps_fields L epoch nodes bs (at + (6 + L)) k)) ∙ e)).1 in
     omega (arith, wraps_end L epoch nodes bs (at + (6 + L)) k more, suc-mul k (6 + L))
 
 pub record Laid (L : ℕ) (bs : List ℕ) : Type 0 where
@@ -60,3 +61,13 @@ wraps_nth L bs at (suc k) zero h =
 wraps_nth L bs at (suc k) (suc i) h =
     let e : at + (6 + L) + i * (6 + L) ≡ at + suc i * (6 + L) = omega (arith, suc-mul i (6 + L)) in
     wraps_nth L bs (at + (6 + L)) k i (omega arith) ∙ ap (λ p. Some (wrap_at L bs p)) e
+
+pub placed_more : (L : ℕ) (bs : List ℕ) (i count : ℕ) → i < count → placed_from L bs i (count - i) ≡ placed_at L bs i ∷ placed_from L bs (i + 1) (count - (i + 1))
+placed_more L bs i count h =
+    let e : count - i ≡ suc (count - (i + 1)) = omega arith in ap (placed_from L bs i) e
+
+pub placed_wraps : (L : ℕ) (bs : List ℕ) (at i k : ℕ) → at ≡ wrap_place L bs i → map (λ p. p.wrap) (placed_from L bs i k) ≡ wraps_from L bs at k
+placed_wraps L bs at i zero e = refl
+placed_wraps L bs at i (suc k) e =
+    let next : at + (6 + L) ≡ wrap_place L bs (i + 1) = omega (arith, add-mul i 1 (6 + L)) in
+    ap₂ ◌∷◌ (ap (wrap_at L bs) (sym e)) (placed_wraps L bs (at + (6 + L)) (i + 1) k next)

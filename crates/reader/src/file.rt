@@ -7,6 +7,8 @@ ghost use Rattle.rekey.specs.Reading.{wrap_at, wrap_place};
 ghost use Rattle.reader.specs.Views.{shown};
 
 use crate::wraps::FileWrap;
+use byte_strings::part_of;
+use keys::KeyName;
 use layout::lists;
 use wrap::Wrap;
 
@@ -46,16 +48,21 @@ impl<'a> RekeyFile<'a> {
     pub fn epoch(self) -> u32
         ensures { result ≡ number4 self.entry.bytes.now 3 }
     {
-        let b = self.bytes;
-        u32::from_be_bytes([b[3], b[4], b[5], b[6]])
+        u32::from_be_bytes(part_of(self.bytes, 3))
+    }
+
+    // Where the changed nodes end.
+    fn nodes_end(self) -> usize
+        ensures { result ≡ 8 + byte_at self.entry.bytes.now 7 }
+    {
+        8 + usize::from(self.bytes[7])
     }
 
     /// The changed nodes, falling.
     pub fn nodes(self) -> &'a [u8]
         ensures { result.now ≡ nodes_of self.entry.bytes.now }
     {
-        let b = self.bytes;
-        &b[8..8 + b[7] as usize]
+        &self.bytes[8..self.nodes_end()]
     }
 
     /// Whether a node is one of the changed ones.
@@ -70,9 +77,7 @@ impl<'a> RekeyFile<'a> {
         ensures count { result ≡ wrap_count self.entry.bytes.now }
         ensures few { result ≤ 896 }
     {
-        let b = self.bytes;
-        let at = 8 + b[7] as usize;
-        u16::from_be_bytes([b[at], b[at + 1]]) as usize
+        usize::from(u16::from_be_bytes(part_of(self.bytes, self.nodes_end())))
     }
 
     // Where the wrap of index `i` begins.
@@ -81,7 +86,7 @@ impl<'a> RekeyFile<'a> {
         ensures place { result ≡ wrap_place self.entry.sealed_len self.entry.bytes.now i }
         ensures inside { result + 6 + self.entry.sealed_len ≤ length self.entry.bytes.now }
     {
-        10 + self.bytes[7] as usize + i * (6 + self.sealed_len)
+        self.nodes_end() + 2 + i * (6 + self.sealed_len)
     }
 
     /// The wrap of index `i`.
@@ -92,12 +97,19 @@ impl<'a> RekeyFile<'a> {
         ensures epoch { result.content.epoch ≡ number4 self.entry.bytes.now 3 }
         ensures value { shown result ≡ wrap_at self.entry.sealed_len self.entry.bytes.now (wrap_place self.entry.sealed_len self.entry.bytes.now i) }
     {
-        FileWrap::from_bytes(
-            self.bytes,
-            self.sealed_len,
-            self.epoch(),
-            i,
-            self.place_of(i),
-        )
+        let place = self.place_of(i);
+        FileWrap {
+            index: i,
+            place,
+            opener: KeyName {
+                node: self.bytes[place],
+                epoch: u32::from_be_bytes(part_of(self.bytes, place + 1)),
+            },
+            content: KeyName {
+                node: self.bytes[place + 5],
+                epoch: self.epoch(),
+            },
+            sealed: &self.bytes[place + 6..place + 6 + self.sealed_len],
+        }
     }
 }

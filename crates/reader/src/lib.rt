@@ -4,12 +4,14 @@
 ghost use Rattle.reader.specs.Laws.{WrapsInOrder};
 
 mod file;
+mod iter;
 mod wraps;
 
 pub use file::RekeyFile;
+pub use iter::Wraps;
 pub use wraps::FileWrap;
 
-/// Handing out wraps by their index, from 0, gives all wraps of the file in their order.
+/// Handing out wraps by their index, from 0, or one after the other, gives all wraps of the file in their order.
 pub fn wraps_in_order()
     ensures { WrapsInOrder }
 {}

@@ -1,11 +1,9 @@
 //! A wrap that stands in a file.
-ghost use Rattle.std.specs.Prelude.{◌≡◌, ◌+◌, ◌≤◌, length};
+ghost use Rattle.std.specs.Prelude.{◌≡◌};
 ghost use Rattle.keys.specs.Names.{wrap_name};
 ghost use Rattle.layout.specs.Refusals.{refusal_of, with_index};
 ghost use Rattle.refusal.specs.Refusals.{told};
-ghost use Rattle.rekey.specs.Reading.{wrap_at};
 ghost use Rattle.wrap.specs.Calls.{wiped, open_verdict, open_leaves};
-ghost use Rattle.reader.specs.Views.{shown};
 
 use keys::{KeyName, wrap_name};
 use layout::{FileFault, IndexedFault};
@@ -25,42 +23,7 @@ pub struct FileWrap<'a> {
     pub sealed: &'a [u8],
 }
 
-impl<'a> FileWrap<'a> {
-    /// The wrap at `place` of a file of that epoch.
-    pub(crate) fn from_bytes(
-        bytes: &'a [u8],
-        sealed_len: usize,
-        epoch: u32,
-        index: usize,
-        place: usize,
-    ) -> FileWrap<'a>
-        requires { place + 6 + sealed_len ≤ length bytes.now }
-        ensures index { result.index ≡ index }
-        ensures place { result.place ≡ place }
-        ensures epoch { result.content.epoch ≡ epoch }
-        ensures value { shown result ≡ wrap_at sealed_len bytes.now place }
-    {
-        let made = u32::from_be_bytes([
-            bytes[place + 1],
-            bytes[place + 2],
-            bytes[place + 3],
-            bytes[place + 4],
-        ]);
-        FileWrap {
-            index,
-            place,
-            opener: KeyName {
-                node: bytes[place],
-                epoch: made,
-            },
-            content: KeyName {
-                node: bytes[place + 5],
-                epoch,
-            },
-            sealed: &bytes[place + 6..place + 6 + sealed_len],
-        }
-    }
-
+impl FileWrap<'_> {
     /// Opens the wrap under a key, writes the content's key to `place`, and clears `work`.
     pub fn open<W: Wrap>(
         self,
@@ -74,12 +37,10 @@ impl<'a> FileWrap<'a> {
         ensures cleared { work.new ≡ wiped work.old }
     {
         let name = wrap_name(self.opener, self.content);
-        match wrap.open(key, name, self.sealed, place, work) {
-            Ok(()) => Ok(()),
-            Err(fault) => Err(FileFault::from(IndexedFault {
+        wrap.open(key, name, self.sealed, place, work)
+            .map_err(|fault| FileFault::from(IndexedFault {
                 index: self.index,
                 fault,
-            })),
-        }
+            }))
     }
 }

@@ -1,11 +1,11 @@
 -- The plans of the three strategies are lawful for every row.
-use Rattle.std.specs.Prelude.{◌≡◌, List, length}
+use Rattle.std.specs.Prelude.{List}
 use Rattle.tree.specs.declared.types.Code.{Code}
 use Rattle.tree.specs.Plans.{Lawful}
 use Rattle.rules.specs.Rules.{Rule, plan, star, user_oriented, key_oriented}
 
 abbrev pub AlwaysLawful : Rule → Type 0
-AlwaysLawful rule = (row : List Code) → length row ≡ 128 → Lawful row (plan rule row)
+AlwaysLawful rule = (row : List Code) → Lawful row (plan rule row)
 
 pub record ThreeLawful : Type 0 where
   pub star_lawful : AlwaysLawful star

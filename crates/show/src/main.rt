@@ -1,29 +1,26 @@
 //! Shows what stands in a rekey file, or where its first fault is.
 #![tactic(auto)]
 
-ghost use Rattle.std.specs.Prelude.{◌≡◌, true, IfNone};
+ghost use Rattle.std.specs.Prelude.{◌≡◌, true, IfNone, option_map};
 ghost use Rattle.rekey.specs.Layout.{layout_fault, accepted};
 
-mod arguments;
-
-use arguments::{Kind, kind_of};
 use kw::KeyWrap;
 use layout::{FileFault, check};
 use reader::{FileWrap, RekeyFile};
 use siv::Siv;
 use std::io::Read;
 use std::{env, io};
-use wrap::Wrap;
+use wrap::{Kind, Wrap};
 
-// The place of the first fault; a check is refused for nothing else.
-fn first_fault<W: Wrap>(wrap: &W, bytes: &[u8]) -> Option<usize>
-    ensures place { result ≡ layout_fault W.wrap_kind W.wrap_length bytes.now }
+// The number and the place of the first fault; a check is refused for nothing else.
+fn first_fault<W: Wrap>(wrap: &W, bytes: &[u8]) -> Option<(u8, usize)>
+    ensures fault { result ≡ option_map (λ place. (15, place)) (layout_fault W.wrap_kind W.wrap_length bytes.now) }
     ensures accepts { IfNone result (accepted W.wrap_length bytes.now ≡ true) }
 {
-    match check(wrap, bytes) {
-        Ok(()) => None,
-        Err(FileFault::Layout { place }) => Some(place),
-        Err(FileFault::Wrap { .. }) => unreachable(),
+    let fault = check(wrap, bytes).err()?;
+    match fault {
+        FileFault::Layout { place } => Some((fault.number(), place)),
+        FileFault::Wrap { .. } => unreachable!(),
     }
 }
 
@@ -45,8 +42,8 @@ fn show_wrap(rt: &HostRuntime, wrap: FileWrap<'_>) -> io::Result<()> {
 }
 
 fn show_file<W: Wrap>(rt: &HostRuntime, wrap: &W, bytes: &[u8]) -> io::Result<()> {
-    if let Some(place) = first_fault(wrap, bytes) {
-        return println!(rt; "no 15 {place}");
+    if let Some((number, place)) = first_fault(wrap, bytes) {
+        return println!(rt; "no {number} {place}");
     }
     let file = RekeyFile::over(wrap, bytes);
     let kind = file.kind();
@@ -56,10 +53,18 @@ fn show_file<W: Wrap>(rt: &HostRuntime, wrap: &W, bytes: &[u8]) -> io::Result<()
     let size = bytes.len();
     println!(rt; "kind {kind} epoch {epoch} nodes {nodes} wraps {wraps} bytes {size}")?;
     show_nodes(rt, file.nodes())?;
-    for i in 0..wraps {
-        show_wrap(rt, file.wrap_at(i))?;
+    for wrap in file.wraps() {
+        show_wrap(rt, wrap)?;
     }
     Ok(())
+}
+
+// The kind that the one argument names.
+fn kind_of(arguments: &[String]) -> Option<Kind> {
+    match arguments {
+        [word] => word.parse().ok(),
+        _ => None,
+    }
 }
 
 fn run(rt: &HostRuntime) -> anyhow::Result<()> {
@@ -71,6 +76,7 @@ fn run(rt: &HostRuntime) -> anyhow::Result<()> {
     };
     let mut bytes = Vec::new(heap);
     rt.stdin().read_to_end(&mut bytes)?;
+    // There are these two kinds and no others, so a match is plainest.
     match kind {
         Kind::Rfc3394 => show_file(rt, &KeyWrap, bytes.as_slice())?,
         Kind::Rfc5297 => show_file(rt, &Siv, bytes.as_slice())?,

@@ -1,10 +1,10 @@
 //! The counter mode.
-ghost use Rattle.std.specs.Prelude.{◌≡◌, ◌+◌, ◌%◌, ◌^◌, length};
-ghost use Rattle.aes.specs.Cipher.{cipher};
+ghost use Rattle.std.specs.Prelude.{◌≡◌, ◌+◌, ◌%◌, ◌^◌};
+ghost use Rattle.aes.specs.Keyed.{enciphered};
 ghost use Rattle.siv.specs.Counter.{cleared, inc};
 ghost use Rattle.siv.specs.Counter.{ctr as counted};
 
-use aes::encipher;
+use aes::Schedule;
 use byte_strings::xor_into;
 use cmac::{block_of, number_of};
 
@@ -24,6 +24,7 @@ fn plus_one(n: u128) -> u128
     n.wrapping_add(1)
 }
 
+#[tactic(auto, unfolding(crate::specs::Counter::inc))]
 fn increment(q: [u8; 16]) -> [u8; 16]
     ensures { result ≡ inc q }
 {
@@ -31,15 +32,15 @@ fn increment(q: [u8; 16]) -> [u8; 16]
 }
 
 /// Adds the keystream that starts at the IV `v` to the text, in place; a second time takes it back.
-pub fn ctr(w: &[u8], v: [u8; 16], text: &mut [u8])
-    requires { length w.now ≡ 176 }
-    ensures added { text.new ≡ counted (cipher 10 w.now) v text.old }
-    ensures back { counted (cipher 10 w.now) v text.new ≡ text.old }
+pub fn ctr(w: Schedule<'_>, v: [u8; 16], text: &mut [u8])
+    ensures added { text.new ≡ counted (enciphered w.entry) v text.old }
+    ensures back { counted (enciphered w.entry) v text.new ≡ text.old }
 {
     let mut q = counter_start(v);
+    // By index: what a slice holds after a loop over its `chunks_mut` is not known to the prover.
     for i in 0..text.len().div_ceil(16) {
-        let key = encipher(w, 10, q);
-        xor_into(&mut text[16 * i..], &key);
+        xor_into(&mut text[16 * i..], &w.encipher(q));
+        // Through a local: the prover does not cover a call whose result is laid into an array that is held.
         let next = increment(q);
         q = next;
     }

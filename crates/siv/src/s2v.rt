@@ -1,6 +1,6 @@
 //! S2V: the synthetic IV of an associated string and a text.
 ghost use Rattle.std.specs.Prelude.{◌≡◌, ◌<◌, ◌≤◌, [], ◌∷◌, length};
-ghost use Rattle.aes.specs.Cipher.{cipher};
+ghost use Rattle.aes.specs.Keyed.{enciphered};
 ghost use Rattle.byte_strings.specs.Strings.{xors};
 ghost use Rattle.cmac.specs.Blocks.{dbl};
 ghost use Rattle.cmac.specs.Cmac.{padding};
@@ -8,15 +8,15 @@ ghost use Rattle.cmac.specs.Cmac.{cmac as tag_of};
 ghost use Rattle.siv.specs.S2v.{xorend, gathered};
 ghost use Rattle.siv.specs.S2v.{s2v as synthetic};
 
-use byte_strings::{xor_block, xor_into};
+use aes::Schedule;
+use byte_strings::{xor_into, xored};
 use cmac::{double, mac, pad};
 
 /// D past one more string.
-fn gather(w: &[u8], d: [u8; 16], string: &[u8]) -> [u8; 16]
-    requires { length w.now ≡ 176 }
-    ensures { result ≡ gathered (cipher 10 w.now) d (string.now ∷ []) }
+fn gather(w: Schedule<'_>, d: [u8; 16], string: &[u8]) -> [u8; 16]
+    ensures { result ≡ gathered (enciphered w.entry) d (string.now ∷ []) }
 {
-    xor_block(double(d), mac(w, string))
+    xored(double(d), mac(w, string))
 }
 
 /// xorend, in place; a second time takes it back.
@@ -30,10 +30,9 @@ fn add_to_end(text: &mut [u8], d: [u8; 16])
 }
 
 /// The CMAC of the text with D added to its end; the text is as it was afterwards.
-fn mac_with_end(w: &[u8], text: &mut [u8], d: [u8; 16]) -> [u8; 16]
-    requires schedule { length w.now ≡ 176 }
-    requires block { 16 ≤ length text.old }
-    ensures tag { result ≡ tag_of (cipher 10 w.now) (xorend text.old d) }
+fn mac_with_end(w: Schedule<'_>, text: &mut [u8], d: [u8; 16]) -> [u8; 16]
+    requires { 16 ≤ length text.old }
+    ensures tag { result ≡ tag_of (enciphered w.entry) (xorend text.old d) }
     ensures kept { text.new ≡ text.old }
 {
     add_to_end(text, d);
@@ -43,18 +42,16 @@ fn mac_with_end(w: &[u8], text: &mut [u8], d: [u8; 16]) -> [u8; 16]
 }
 
 /// The CMAC of a text shorter than a block, padded, with D doubled.
-fn mac_padded(w: &[u8], text: &[u8], d: [u8; 16]) -> [u8; 16]
-    requires schedule { length w.now ≡ 176 }
-    requires short { length text.now < 16 }
-    ensures { result ≡ tag_of (cipher 10 w.now) (xors (dbl d) (padding text.now)) }
+fn mac_padded(w: Schedule<'_>, text: &[u8], d: [u8; 16]) -> [u8; 16]
+    requires { length text.now < 16 }
+    ensures { result ≡ tag_of (enciphered w.entry) (xors (dbl d) (padding text.now)) }
 {
-    mac(w, &xor_block(double(d), pad(text)))
+    mac(w, &xored(double(d), pad(text)))
 }
 
 /// S2V of one associated string and a text, which is as it was afterwards.
-pub fn synthetic_iv(w: &[u8], string: &[u8], text: &mut [u8]) -> [u8; 16]
-    requires { length w.now ≡ 176 }
-    ensures iv { result ≡ synthetic (cipher 10 w.now) (string.now ∷ []) text.old }
+pub fn synthetic_iv(w: Schedule<'_>, string: &[u8], text: &mut [u8]) -> [u8; 16]
+    ensures iv { result ≡ synthetic (enciphered w.entry) (string.now ∷ []) text.old }
     ensures kept { text.new ≡ text.old }
 {
     let d = gather(w, mac(w, &[0; 16]), string);

@@ -1,118 +1,113 @@
--- What is left of a plan while its pairs are laid into a buffer.
-use Rattle.std.proofs.Common.{◌≡◌, ℕ, zero, suc, ◌+◌, ◌-◌, ◌*◌, ◌<◌, ◌≤◌, Bool, true, false, List, [], ◌∷◌, ◌++◌, map, length, take, drop, set, filter, sym, refl, ap, ◌∙◌, inl, inr, arith}
+-- What is left of a plan while its pairs are laid.
+use Rattle.std.proofs.Common.{◌≡◌, ℕ, zero, suc, ◌+◌, ◌-◌, ◌<◌, ◌≤◌, true, false, cond, List, [], ◌∷◌, ◌++◌, map, length, take, drop, filter, sym, refl, ap, ◌∙◌, arith}
 use Rattle.std.specs.List.{range_with_len, flat_map}
-use Rattle.std.proofs.lemmas.List.{append_assoc, length-append, length-map, length-set, take-append-drop, take_more_set, drop-set-lt}
-use Rattle.std.proofs.lemmas.List.FromFn.{length-range_with_len}
-use Rattle.std.proofs.lemmas.Bool.{cond_both, cases_Bool}
+use Rattle.std.proofs.lemmas.List.{append_assoc, length-map, take-append-drop, take_more_set, drop-set-lt, length-set}
+use Rattle.std.proofs.lemmas.List.Sums.{length-filter, count_by-le-length}
 use Rattle.tree.specs.declared.types.Code.{Code}
-use Rattle.tree.specs.declared.types.Opener.TheVariants.{Present}
+use Rattle.tree.specs.declared.types.Opener.{Opener}
+use Rattle.tree.specs.declared.types.Opener.TheVariants.{Present, Former}
 use Rattle.tree.specs.declared.types.Pair.{Pair}
 use Rattle.tree.specs.Tree.{nodes}
 use Rattle.tree.specs.Rows.{changed}
 use Rattle.tree.specs.Plans.{pair}
 use Rattle.tree.proofs.Standing.{changed_up_to, changed_none, changed_yes, changed_no, changed_all}
 use Rattle.rules.specs.Rules.{Rule, candidates, pairs_for, plan}
-use Rattle.strategies.specs.Writing.{laid, candidate_at}
+use Rattle.strategies.specs.declared.writer.Laid.{Laid}
+use Rattle.strategies.specs.Writing.{with_pair, with_pairs, pairs_under}
 
-module _ {A : Type 0} where
-  pub laid_append : (at : ℕ) (xs ys out : List A) → laid at (xs ++ ys) out ≡ laid (at + length xs) ys (laid at xs out)
-  laid_append at [] ys out = let e : at ≡ at + 0 = omega arith in ap (λ i. laid i ys out) e
-  laid_append at (x ∷ xs) ys out =
-      let e : at + 1 + length xs ≡ at + suc (length xs) = omega arith in
-      laid_append (at + 1) xs ys (set out at x) ∙ ap (λ i. laid i ys (laid (at + 1) xs (set out at x))) e
+with_append : (laid : Laid) (xs ys : List Pair) → with_pairs laid (xs ++ ys) ≡ with_pairs (with_pairs laid xs) ys
+with_append laid [] ys = refl
+with_append laid (x ∷ xs) ys = with_append (with_pair laid x) xs ys
 
-  pub laid_fits : (at : ℕ) (xs out : List A) → at + length xs ≤ length out → laid at xs out ≡ take at out ++ (xs ++ drop (at + length xs) out)
-  laid_fits at [] out h = let e : at ≡ at + 0 = omega arith in sym (take-append-drop at out) ∙ ap (λ i. take at out ++ drop i out) e
-  laid_fits at (x ∷ xs) out h =
-      let e : at + 1 + length xs ≡ at + suc (length xs) = omega arith in
-      let lt : at < length out = omega arith in
-      laid_fits (at + 1) xs (set out at x) (omega (arith, length-set out at x))
-      ∙ ap (λ l. l ++ (xs ++ drop (at + 1 + length xs) (set out at x))) (take_more_set out at x lt)
-      ∙ append_assoc (take at out) (x ∷ []) (xs ++ drop (at + 1 + length xs) (set out at x))
-      ∙ ap (λ l. take at out ++ (x ∷ (xs ++ l))) (drop-set-lt (at + 1 + length xs) out at x (omega arith) ∙ ap (λ i. drop i out) e)
+with_split : (laid : Laid) (xs ys all : List Pair) → all ≡ xs ++ ys → with_pairs (with_pairs laid xs) ys ≡ with_pairs laid all
+with_split laid xs ys all e = sym (with_append laid xs ys) ∙ ap (with_pairs laid) (sym e)
 
-  -- Where a loop stands that lays `all` from `start` on: these are left, and the next comes to `at`.
-  abbrev pub Left : ℕ → List A → List A → ℕ → List A → List A → Type 0
-  Left start all before at left out = (at + length left ≡ start + length all) × (laid at left out ≡ laid start all before)
+pub count_with : (laid : Laid) (xs : List Pair) → (with_pairs laid xs).count ≡ laid.count + length xs
+count_with laid [] = omega arith
+count_with laid (x ∷ xs) = omega (arith, count_with (with_pair laid x) xs)
 
-  pub left_less : (start : ℕ) (all before : List A) (at at' : ℕ) (xs left left' out out' : List A) → left ≡ xs ++ left' → at' ≡ at + length xs → out' ≡ laid at xs out →
-      Left start all before at left out → Left start all before at' left' out'
-  left_less start all before at at' xs left left' out out' e a o l = (
-    omega (arith, ap length e, length-append xs left', l.0, a),
-    ap (λ i. laid i left' out') a ∙ ap (laid (at + length xs) left') o ∙ sym (laid_append at xs left' out) ∙ sym (ap (λ ps. laid at ps out) e) ∙ l.1,
-  )
+pub room_with : (laid : Laid) (xs : List Pair) → (with_pairs laid xs).room.ghost_name ≡ laid.room.ghost_name
+room_with laid [] = refl
+room_with laid (x ∷ xs) = room_with (with_pair laid x) xs
 
-  pub left_same : (start : ℕ) (all before : List A) (at at' : ℕ) (left left' out out' : List A) → left ≡ left' → at' ≡ at → out' ≡ out →
-      Left start all before at left out → Left start all before at' left' out'
-  left_same start all before at at' left left' out out' e a o l = left_less start all before at at' [] left left' out out' e (omega arith) o l
+with_fits : (laid : Laid) (xs : List Pair) → laid.count + length xs ≤ length laid.room.now → (with_pairs laid xs).room.now ≡ take laid.count laid.room.now ++ (xs ++ drop (laid.count + length xs) laid.room.now)
+with_fits laid [] h = let e : laid.count ≡ laid.count + 0 = omega arith in sym (take-append-drop laid.count laid.room.now) ∙ ap (λ i. take laid.count laid.room.now ++ drop i laid.room.now) e
+with_fits laid (x ∷ xs) h =
+    let at = laid.count in
+    let out = laid.room.now in
+    let next = with_pair laid x in
+    let e : at + 1 + length xs ≡ at + suc (length xs) = omega arith in
+    with_fits next xs (omega (arith, length-set out at x))
+    ∙ ap (λ l. l ++ (xs ++ drop (at + 1 + length xs) next.room.now)) (take_more_set out at x (omega arith))
+    ∙ append_assoc (take at out) (x ∷ []) (xs ++ drop (at + 1 + length xs) next.room.now)
+    ∙ ap (λ l. take at out ++ (x ∷ (xs ++ l))) (drop-set-lt (at + 1 + length xs) out at x (omega arith) ∙ ap (λ i. drop i out) e)
 
-  pub left_none : (start : ℕ) (all before : List A) (at : ℕ) (left out : List A) → left ≡ [] → Left start all before at left out → (at ≡ start + length all) × (out ≡ laid start all before)
-  left_none start all before at left out e l = (omega (arith, ap length e, l.0), sym (ap (λ ps. laid at ps out) e) ∙ l.1)
+pub with_whole : (laid : Laid) (xs : List Pair) → laid.count ≡ 0 → length xs ≤ length laid.room.now → (with_pairs laid xs).room.now ≡ xs ++ drop (length xs) laid.room.now
+with_whole laid xs e h =
+    let out = laid.room.now in
+    let long : laid.count + length xs ≡ length xs = omega arith in
+    with_fits laid xs (omega arith) ∙ ap (λ i. take i out ++ (xs ++ drop (laid.count + length xs) out)) e ∙ ap (λ i. xs ++ drop i out) long
 
-  kept_short : (p : A → Bool) (xs : List A) → length (filter p xs) ≤ length xs
-  kept_short p [] = omega arith
-  kept_short p (x ∷ xs) = let rest = kept_short p xs in cond_both (p x) (x ∷ filter p xs) (filter p xs) (λ l. length l ≤ suc (length xs)) (λ e. omega arith) (λ e. omega arith)
+-- what is laid does not depend on the room's name
+pub with_same : (a b : Laid) (xs : List Pair) → a.count ≡ b.count → a.room.now ≡ b.room.now → (with_pairs a xs).room.now ≡ (with_pairs b xs).room.now
+with_same a b [] c w = w
+with_same a b (x ∷ xs) c w = with_same (with_pair a x) (with_pair b x) xs (omega arith) (cc)
 
 module _ (rule : Rule) (row : List Code) where
-  -- the pairs with the content n whose openers come from this place on
-  unfoldable pub pairs_from : ℕ → ℕ → List Pair
-  pairs_from n place = map (λ o. pair o n) (filter (rule row n) (map (candidate_at n) (range_with_len place (256 - place))))
+  under_more : (n : ℕ) (o : Opener) (os : List Opener) → pairs_under rule row n (o ∷ os) ≡ pairs_under rule row n (o ∷ []) ++ pairs_under rule row n os
+  under_more n o os =
+      let under = map (λ p. pair p n) in
+      let rest = filter (rule row n) os in
+      elim (rule row n o) as (λ b. under (cond b (o ∷ rest) rest) ≡ under (cond b (o ∷ []) []) ++ under rest) [ true ↦ refl | false ↦ refl ]
 
-  presents : (n a k : ℕ) → 0 < a → map Present (range_with_len a k) ≡ map (candidate_at n) (range_with_len a k)
-  presents n a zero h = refl
-  presents n zero (suc k) h = absurd (omega arith)
-  presents n (suc a) (suc k) h = ap (λ os. Present (suc a) ∷ os) (presents n (suc a + 1) k (omega arith))
+  -- the pairs with the content n under the present keys from o on
+  unfoldable pub presents_from : ℕ → ℕ → List Pair
+  presents_from n o = pairs_under rule row n (map Present (range_with_len o (256 - o)))
 
-  pub pairs_all : (n : ℕ) → pairs_for rule row n ≡ pairs_from n 0
-  unfolding pairs_for candidates nodes pairs_from
-  pairs_all n = ap (λ os. map (λ o. pair o n) (filter (rule row n) (candidate_at n 0 ∷ os))) (presents n 1 255 (omega arith))
+  pub with_former : (laid : Laid) (n : ℕ) → with_pairs (with_pairs laid (pairs_under rule row n (Former n ∷ []))) (presents_from n 1) ≡ with_pairs laid (pairs_for rule row n)
+  unfolding pairs_for candidates nodes presents_from
+  with_former laid n = with_split laid (pairs_under rule row n (Former n ∷ [])) (presents_from n 1) (pairs_for rule row n) (under_more n (Former n) (map Present nodes))
 
-  pub pairs_yes : (n place : ℕ) → place < 256 → rule row n (candidate_at n place) ≡ true → pairs_from n place ≡ pair (candidate_at n place) n ∷ pairs_from n (place + 1)
-  unfolding pairs_from
-  pairs_yes n place h k = let e : 256 - place ≡ suc (256 - (place + 1)) = omega arith in rw (e, k) refl
+  presents_more : (n o : ℕ) → o ≤ 255 → presents_from n o ≡ pairs_under rule row n (Present o ∷ []) ++ presents_from n (o + 1)
+  unfolding presents_from
+  presents_more n o h = let e : 256 - o ≡ suc (256 - (o + 1)) = omega arith in rw e (under_more n (Present o) (map Present (range_with_len (o + 1) (256 - (o + 1)))))
 
-  pub pairs_no : (n place : ℕ) → place < 256 → rule row n (candidate_at n place) ≡ false → pairs_from n place ≡ pairs_from n (place + 1)
-  unfolding pairs_from
-  pairs_no n place h k = let e : 256 - place ≡ suc (256 - (place + 1)) = omega arith in rw (e, k) refl
+  pub with_present : (laid : Laid) (n o : ℕ) → o ≤ 255 → with_pairs (with_pairs laid (pairs_under rule row n (Present o ∷ []))) (presents_from n (o + 1)) ≡ with_pairs laid (presents_from n o)
+  with_present laid n o h = with_split laid (pairs_under rule row n (Present o ∷ [])) (presents_from n (o + 1)) (presents_from n o) (presents_more n o h)
 
-  pub pairs_done : (n place : ℕ) → 256 ≤ place → pairs_from n place ≡ []
-  unfolding pairs_from
-  pairs_done n place h = let e : 256 - place ≡ 0 = omega arith in rw e refl
-
-  pub pairs_short : (n place : ℕ) → length (pairs_from n place) ≤ 256
-  unfolding pairs_from
-  pairs_short n place =
-      omega (
-        arith,
-        length-map (filter (rule row n) (map (candidate_at n) (range_with_len place (256 - place)))) (λ o. pair o n),
-        kept_short (rule row n) (map (candidate_at n) (range_with_len place (256 - place))),
-        length-map (range_with_len place (256 - place)) (candidate_at n),
-        length-range_with_len place (256 - place),
-      )
+  pub with_last : (laid : Laid) (n o : ℕ) → o ≤ 255 → 255 ≤ o → with_pairs laid (presents_from n o) ≡ with_pairs laid (pairs_under rule row n (Present o ∷ []))
+  unfolding presents_from
+  with_last laid n o h l = let e : 256 - (o + 1) ≡ 0 = omega arith in sym (with_present laid n o h) ∙ rw e refl
 
   -- the pairs with a content of at most k
   unfoldable pub plan_up_to : ℕ → List Pair
   plan_up_to k = flat_map (pairs_for rule row) (changed_up_to row k)
 
-  pub plan_all : plan_up_to 127 ≡ plan rule row
+  pub with_plan : (laid : Laid) → with_pairs laid (plan_up_to 127) ≡ with_pairs laid (plan rule row)
   unfolding plan_up_to plan
-  plan_all = ap (flat_map (pairs_for rule row)) (changed_all row)
+  with_plan laid = ap (λ ns. with_pairs laid (flat_map (pairs_for rule row) ns)) (changed_all row)
 
-  pub plan_yes : (k : ℕ) → changed row (suc k) ≡ true → plan_up_to (suc k) ≡ pairs_for rule row (suc k) ++ plan_up_to k
+  plan_more : (n : ℕ) → 0 < n → true ≡ changed row n → plan_up_to n ≡ pairs_for rule row n ++ plan_up_to (n - 1)
   unfolding plan_up_to
-  plan_yes k e = ap (flat_map (pairs_for rule row)) (changed_yes row k e)
+  plan_more zero h e = absurd (omega arith)
+  plan_more (suc k) h e = let less : suc k - 1 ≡ k = omega arith in rw less (ap (flat_map (pairs_for rule row)) (changed_yes row k (sym e)))
 
-  pub plan_no : (k : ℕ) → changed row (suc k) ≡ false → plan_up_to (suc k) ≡ plan_up_to k
+  pub with_changed : (laid : Laid) (n : ℕ) → 0 < n → true ≡ changed row n → with_pairs (with_pairs laid (pairs_for rule row n)) (plan_up_to (n - 1)) ≡ with_pairs laid (plan_up_to n)
+  with_changed laid n h e = with_split laid (pairs_for rule row n) (plan_up_to (n - 1)) (plan_up_to n) (plan_more n h e)
+
+  pub with_unchanged : (laid : Laid) (n : ℕ) → 0 < n → false ≡ changed row n → with_pairs laid (plan_up_to (n - 1)) ≡ with_pairs laid (plan_up_to n)
   unfolding plan_up_to
-  plan_no k e = ap (flat_map (pairs_for rule row)) (changed_no row k e)
+  with_unchanged laid zero h e = absurd (omega arith)
+  with_unchanged laid (suc k) h e = let less : suc k - 1 ≡ k = omega arith in rw less (ap (λ ns. with_pairs laid (flat_map (pairs_for rule row) ns)) (sym (changed_no row k (sym e))))
 
-  pub plan_none : plan_up_to 0 ≡ []
+  pub with_none : (laid : Laid) (k : ℕ) → k ≡ 0 → with_pairs laid (plan_up_to k) ≡ laid
   unfolding plan_up_to
-  plan_none = ap (flat_map (pairs_for rule row)) (changed_none row)
+  with_none laid k e = rw e (ap (λ ns. with_pairs laid (flat_map (pairs_for rule row) ns)) (changed_none row))
 
-  pub plan_short : (k : ℕ) → length (plan_up_to k) ≤ 256 * k
-  plan_short zero = omega (arith, ap length plan_none)
-  plan_short (suc k) = elim (cases_Bool (changed row (suc k))) [
-    | inl y ↦ omega (arith, ap length (plan_yes k y), length-append (pairs_for rule row (suc k)) (plan_up_to k), ap length (pairs_all (suc k)), pairs_short (suc k) 0, plan_short k)
-    | inr z ↦ omega (arith, ap length (plan_no k z), plan_short k)
-  ]
+  pub pairs_few : (n : ℕ) → length (pairs_for rule row n) ≤ 256
+  unfolding pairs_for candidates nodes
+  pairs_few n = omega (arith, length-map (filter (rule row n) (candidates n)) (λ o. pair o n), length-filter (rule row n) (candidates n), count_by-le-length (rule row n) (candidates n))
+
+pub ruleset contents = (with_former, with_present, with_last, count_with)
+
+pub ruleset plans = (with_plan, with_changed, with_unchanged, with_none, pairs_few, count_with, room_with, with_same, with_whole)

@@ -1,1 +1,1 @@
-mod Laying
+pub mod Laying

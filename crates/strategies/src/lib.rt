@@ -1,54 +1,44 @@
 //! The three rekey strategies.
 #![tactic(auto)]
 
+ghost use Rattle.std.specs.Prelude.{◌≡◌, List};
+ghost use Rattle.tree.specs.declared.types.Code.{Code as Codes};
 ghost use Rattle.rules.specs.Rules.{plan, star, user_oriented, key_oriented};
-ghost use Rattle.rules.proofs.StarLaw.{star_lawful};
-ghost use Rattle.rules.proofs.UserLaw.{user_oriented_lawful};
-ghost use Rattle.rules.proofs.KeyLaw.{key_oriented_lawful};
 
 use tree::{Board, Code, Pair, PlanFault, Strategy};
 
 mod serving;
 mod writer;
 
-use serving::{KeyRule, StarRule, UserRule};
+pub use serving::{KeyRule, Rule, StarRule, UserRule};
 use writer::fill;
 
-/// Each new key under each occupied leaf beneath its node.
-pub struct Star;
+/// The strategy of a rule: each new key under the openers that serve its node.
+#[derive(Clone, Copy, Default)]
+pub struct ByRule<R>(R);
 
-impl Strategy for Star {
-    ghost planned = { plan star };
+impl<R: Rule> Strategy for ByRule<R> {
+    ghost planned = { plan R.rule };
 
-    ghost lawful = { λ row _. star_lawful row };
+    ghost lawful = { λ row _. R.lawful row };
 
     fn plan(&self, row: &[Code; 128], pairs: &mut [Pair]) -> Result<usize, PlanFault> {
-        fill::<StarRule>(&Board::new(row), pairs)
+        fill::<R>(&Board::new(row), pairs)
     }
 }
+
+/// Each new key under each occupied leaf beneath its node.
+pub type Star = ByRule<StarRule>;
 
 /// Each new key under each top beneath its node.
-pub struct UserOriented;
-
-impl Strategy for UserOriented {
-    ghost planned = { plan user_oriented };
-
-    ghost lawful = { λ row _. user_oriented_lawful row };
-
-    fn plan(&self, row: &[Code; 128], pairs: &mut [Pair]) -> Result<usize, PlanFault> {
-        fill::<UserRule>(&Board::new(row), pairs)
-    }
-}
+pub type UserOriented = ByRule<UserRule>;
 
 /// Each new key under its node's former key and the newcomers beneath, or under the node's children.
-pub struct KeyOriented;
+pub type KeyOriented = ByRule<KeyRule>;
 
-impl Strategy for KeyOriented {
-    ghost planned = { plan key_oriented };
-
-    ghost lawful = { λ row _. key_oriented_lawful row };
-
-    fn plan(&self, row: &[Code; 128], pairs: &mut [Pair]) -> Result<usize, PlanFault> {
-        fill::<KeyRule>(&Board::new(row), pairs)
-    }
-}
+/// Each of the three plans by its rule.
+pub fn three_plans()
+    ensures star { (row : List Codes) → ⟦<Star as Strategy>⟧.planned row ≡ plan star row }
+    ensures user_oriented { (row : List Codes) → ⟦<UserOriented as Strategy>⟧.planned row ≡ plan user_oriented row }
+    ensures key_oriented { (row : List Codes) → ⟦<KeyOriented as Strategy>⟧.planned row ≡ plan key_oriented row }
+{}

@@ -1,6 +1,10 @@
 //! Which opener serves which content, by each strategy.
-ghost use Rattle.std.specs.Prelude.{◌≡◌, ◌<◌};
+ghost use Rattle.std.specs.Prelude.{◌≡◌};
 ghost use Rattle.rules.specs.Rules.{Rule as Rules, star, top, user_oriented, child, key_oriented};
+ghost use Rattle.rules.specs.Lawfulness.{AlwaysLawful};
+ghost use Rattle.rules.proofs.StarLaw.{star_lawful};
+ghost use Rattle.rules.proofs.UserLaw.{user_oriented_lawful};
+ghost use Rattle.rules.proofs.KeyLaw.{key_oriented_lawful};
 
 use tree::{Board, Opener, is_beneath, is_inner, is_leaf, parent};
 
@@ -9,14 +13,19 @@ pub trait Rule {
     ghost rule: { Rules };
 
     fn serves(board: &Board, content: u8, opener: Opener) -> bool
-        requires inner { content < 128 }
         ensures { result ≡ rule board.now.row content opener };
+
+    ghost lawful: { AlwaysLawful rule };
 }
 
+/// An opener serves where it is an occupied leaf beneath the content.
+#[derive(Clone, Copy, Default)]
 pub struct StarRule;
 
 impl Rule for StarRule {
     ghost rule = { star };
+
+    ghost lawful = { star_lawful };
 
     fn serves(board: &Board, content: u8, opener: Opener) -> bool {
         match opener {
@@ -35,10 +44,14 @@ fn is_top(board: &Board, o: u8) -> bool
         && (is_leaf(o) || is_inner(o) && !board.is_changed(o))
 }
 
+/// An opener serves where it is a top beneath the content.
+#[derive(Clone, Copy, Default)]
 pub struct UserRule;
 
 impl Rule for UserRule {
     ghost rule = { user_oriented };
+
+    ghost lawful = { user_oriented_lawful };
 
     fn serves(board: &Board, content: u8, opener: Opener) -> bool {
         match opener {
@@ -48,10 +61,14 @@ impl Rule for UserRule {
     }
 }
 
+/// The content's former key serves, and each newcomer beneath it; or, if that key does not, each occupied child.
+#[derive(Clone, Copy, Default)]
 pub struct KeyRule;
 
 impl Rule for KeyRule {
     ghost rule = { key_oriented };
+
+    ghost lawful = { key_oriented_lawful };
 
     fn serves(board: &Board, content: u8, opener: Opener) -> bool {
         let former = board.former_serves(content);
@@ -64,8 +81,7 @@ impl Rule for KeyRule {
 }
 
 fn is_child(o: u8, n: u8) -> bool
-    requires inner { n < 128 }
     ensures { result ≡ child o n }
 {
-    o == 2 * n || o == 2 * n + 1
+    parent(o) == n
 }

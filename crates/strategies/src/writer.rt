@@ -1,73 +1,72 @@
 //! Writing the pairs that a rule keeps, in plan order.
-ghost use Rattle.std.specs.Prelude.{◌≡◌, ◌+◌, ◌-◌, ◌<◌, ◌≤◌, ◌++◌, length, drop, slice_set};
+ghost use Rattle.std.specs.Prelude.{◌≡◌, ◌+◌, ◌<◌, ◌≤◌, ◌++◌, [], ◌∷◌, length, drop};
 ghost use Rattle.refusal.specs.Refusals.{told};
 ghost use Rattle.tree.specs.Calls.{refusal_of, plan_verdict, plan_leaves};
 ghost use Rattle.rules.specs.Rules.{pairs_for, plan};
-ghost use Rattle.strategies.specs.Writing.{laid, candidate_at};
+ghost use Rattle.strategies.specs.Writing.{with_pair, with_pairs, pairs_under};
 
 use crate::serving::Rule;
 use tree::{Board, Opener, Pair, PlanFault};
 
-// The inner nodes by falling number: 127 at turn 0, the root at turn 126.
-fn content_at(turn: u8) -> u8
-    requires inner { turn < 127 }
-    ensures { result ≡ 127 - turn }
-{
-    127 - turn
+// Pairs laid one after another into lent room; those that have no room are only counted. So the count is no length of what was laid.
+#[derive(Drop)]
+struct Laid<'a> {
+    room: &'a mut [Pair],
+    count: usize,
 }
 
-// What can serve `n`: its own former key first, then the nodes' present keys by rising number.
-fn candidate(n: u8, place: usize) -> Opener
-    requires node { place < 256 }
-    ensures { result ≡ candidate_at n place }
-{
-    match place {
-        0 => Opener::Former(n),
-        o => Opener::Present(o as u8),
+impl Laid<'_> {
+    // Each call may end what bounds the count, so no invariant of the struct can hold the bound.
+    fn push(&mut self, pair: Pair)
+        requires { self.old.count < usize.MAX }
+        ensures { self.new ≡ with_pair self.old pair }
+    {
+        if self.count < self.room.len() {
+            self.room[self.count] = pair;
+        }
+        self.count += 1;
     }
-}
 
-// Writes where there is room.
-fn put(out: &mut [Pair], at: usize, pair: Pair)
-    ensures { out.new ≡ slice_set out.old at pair }
-{
-    if at < out.len() {
-        out[at] = pair;
-    }
-}
-
-// The pairs with the content `n`, from `start` on; answers where they end.
-fn lay_content<R: Rule>(board: &Board, n: u8, out: &mut [Pair], start: usize) -> usize
-    requires inner { n < 128 }
-    requires small { start < 65536 }
-    ensures end { result ≡ start + length (pairs_for R.rule board.now.row n) }
-    ensures written { out.new ≡ laid start (pairs_for R.rule board.now.row n) out.old }
-{
-    let mut at = start;
-    for place in 0..256 {
-        let opener = candidate(n, place);
-        if R::serves(board, n, opener) {
-            put(out, at, Pair { opener, content: n });
-            at += 1;
+    // The pair of an opener, if it serves the content.
+    fn offer<R: Rule>(&mut self, board: &Board, opener: Opener, content: u8)
+        requires { self.old.count < usize.MAX }
+        ensures { self.new ≡ with_pairs self.old (pairs_under R.rule board.now.row content (opener ∷ [])) }
+    {
+        if R::serves(board, content, opener) {
+            self.push(Pair { opener, content });
         }
     }
-    at
+
+    // The pairs with the content `n`, by its own former key first and then by the present keys, rising.
+    #[tactic(auto, using(crate::proofs::Laying::contents))]
+    fn push_content<R: Rule>(&mut self, board: &Board, n: u8)
+        requires { self.old.count + length (pairs_for R.rule board.now.row n) < usize.MAX }
+        ensures { self.new ≡ with_pairs self.old (pairs_for R.rule board.now.row n) }
+    {
+        self.offer::<R>(board, Opener::Former(n), n);
+        for o in 1..=255 {
+            self.offer::<R>(board, Opener::Present(o), n);
+        }
+    }
 }
 
 // The whole plan, as far as there is room; answers how many pairs it has.
+#[tactic(auto, using(crate::proofs::Laying::plans))]
 fn lay<R: Rule>(board: &Board, out: &mut [Pair]) -> usize
     ensures count { result ≡ length (plan R.rule board.now.row) }
-    ensures written { out.new ≡ laid 0 (plan R.rule board.now.row) out.old }
+    ensures written { out.new ≡ (with_pairs (record { room = out.entry; count = 0 }) (plan R.rule board.now.row)).room.now }
     ensures fits { result ≤ length out.old → out.new ≡ plan R.rule board.now.row ++ drop (length (plan R.rule board.now.row)) out.old }
 {
-    let mut at = 0;
-    for turn in 0..127u8 {
-        let n = content_at(turn);
+    let mut laid = Laid {
+        room: out,
+        count: 0,
+    };
+    for n in (1..128u8).rev() {
         if board.is_changed(n) {
-            at = lay_content::<R>(board, n, out, at);
+            laid.push_content::<R>(board, n);
         }
     }
-    at
+    laid.count
 }
 
 /// Writes the plan of a rule, or refuses if it does not fit.

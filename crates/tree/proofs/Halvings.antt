@@ -1,15 +1,14 @@
 -- Going up the tree, by counts of halvings.
-use Rattle.std.proofs.Common.{◌≡◌, ℕ, zero, suc, ◌+◌, ◌-◌, ◌*◌, ◌/◌, ◌<◌, ◌≤◌, Bool, true, false, ◌&&◌, eqb, ltb, leb, ◌⊎◌, sym, refl, ap, ◌∙◌, inl, inr, suc-add, zero-add, arith}
+use Rattle.std.proofs.Common.{◌≡◌, ℕ, zero, suc, ◌+◌, ◌-◌, ◌*◌, ◌/◌, ◌<◌, ◌≤◌, Bool, true, ◌&&◌, eqb, ltb, leb, ◌⊎◌, sym, refl, ap, ◌∙◌, inl, inr, suc-add, zero-add, arith}
 use Rattle.std.specs.List.{range_with_len}
 use Rattle.std.proofs.lemmas.Bool.{cases_eq, cases_lt, and_from, and_parts, eq-eqb, eqb-true, le-leb, lt-ltb, leb-true, ltb-true}
+use Rattle.std.proofs.lemmas.Bool.Decides.{same_from_decides}
 use Rattle.tree.specs.Tree.{some, halved, Within, Beneath, Leaf, Inner, within, beneath, is_leaf, is_inner}
 use Rattle.tree.proofs.Members.{some_from, some_who, counting_in}
 
 -- tests that pass together are equal
 pub same_test : (a b : Bool) → (a ≡ true → b ≡ true) → (b ≡ true → a ≡ true) → a ≡ b
-same_test true b f g = sym (f refl)
-same_test false true f g = g refl
-same_test false false f g = refl
+same_test a b f g = same_from_decides a b (f, g) (λ e. e, λ e. e)
 
 pub halved_add : (i j n : ℕ) → halved i (halved j n) ≡ halved (i + j) n
 halved_add zero j n = rw zero-add
@@ -88,6 +87,8 @@ pub within_stop : (m n : ℕ) → m < 256 → m ≤ n → within m n ≡ (ltb 0 
 within_stop m n h l = same_test (within m n) (ltb 0 n && eqb m n)
     (λ e. let w = within_is m n e in and_from (ltb 0 n) (eqb m n) (lt-ltb 0 n (within_node m n e)) (eq-eqb m n (omega (arith, halved_low w.0 m, w.1))))
     (λ e. let p = and_parts (ltb 0 n) (eqb m n) e in within_from m n h (ltb-true 0 n p.0) (0, eqb-true m n p.1))
+
+pub ruleset walk = (within_step, within_stop)
 
 -- What stands where.
 

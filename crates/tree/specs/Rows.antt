@@ -1,9 +1,10 @@
 -- A row has a code for each of the 128 cradles. It says which nodes a change touches, and which are occupied after it.
-use Rattle.std.specs.Prelude.{◌≡◌, ℕ, zero, suc, ◌-◌, ◌<◌, Bool, true, false, not, ◌&&◌, List, Some, None, filter, Option, slice_index_or}
+use Rattle.std.specs.Prelude.{◌≡◌, ℕ, zero, suc, ◌-◌, ◌<◌, Bool, true, false, not, ◌&&◌, ◌||◌, List, Some, None, filter, Option, slice_index_or}
 use Rattle.tree.specs.declared.types.Code.{Code}
 use Rattle.tree.specs.declared.types.Code.TheVariants.{Empty, Stays, Arrives, Departs, Swaps}
 use Rattle.tree.specs.declared.types.Mark.{Mark}
 use Rattle.tree.specs.declared.types.Mark.TheVariants.{Change, Presence, Stay, Departure}
+use Rattle.tree.specs.declared.codes.Standing.{Standing}
 use Rattle.tree.specs.Tree.{within, is_inner, some, leaves, inners}
 
 -- the code of a number: 0 to 4 have one
@@ -86,13 +87,33 @@ former_serves row n = stands stays row n && not (stands departs row n)
 unfoldable pub changed_nodes : List Code → List ℕ
 changed_nodes row = filter (changed row) inners
 
+-- what stands where nobody is
+abbrev pub nothing : Standing
+nothing = record { change = false; presence = false; stay = false; departure = false }
+
+-- what stands at a leaf with this code
+abbrev pub standing_of : Code → Standing
+standing_of code = record { change = moves code; presence = seats code; stay = stays code; departure = departs code }
+
+-- what stands in either place
+abbrev pub either : Standing → Standing → Standing
+either s t = record { change = s.change || t.change; presence = s.presence || t.presence; stay = s.stay || t.stay; departure = s.departure || t.departure }
+
+-- what stands at a node or beneath it
+abbrev pub standing : List Code → ℕ → Standing
+standing row n = record { change = stands moves row n; presence = occupied row n; stay = stands stays row n; departure = stands departs row n }
+
+-- whether a mark is among them
+abbrev pub says : Standing → Mark → Bool
+says s Change = s.change
+says s Presence = s.presence
+says s Stay = s.stay
+says s Departure = s.departure
+
 -- what a mark says of a node
 abbrev pub marked : Mark → List Code → ℕ → Bool
-marked Change row n = stands moves row n
-marked Presence row n = occupied row n
-marked Stay row n = stands stays row n
-marked Departure row n = stands departs row n
+marked mark row n = says (standing row n) mark
 
--- a table that has the test of each number, and so of each node
-abbrev pub Tabled : (ℕ → Bool) → List Bool → Type 0
-Tabled test table = (n : ℕ) → n < 256 → slice_index_or table n false ≡ test n
+-- a table of what stands at each number, and so at each node
+abbrev pub Tabled : List Code → List Standing → Type 0
+Tabled row table = (n : ℕ) → n < 256 → slice_index_or table n nothing ≡ standing row n

@@ -1,38 +1,18 @@
 //! A row of codes, with what stands beneath each node.
 ghost use Rattle.std.specs.Prelude.{◌≡◌, ◌&&◌, length};
 ghost use Rattle.tree.specs.Tree.{is_leaf};
-ghost use Rattle.tree.specs.Rows.{moves, stays, departs, arrives, code, stands, changed, changed_nodes, occupied, former_serves, marked, Tabled};
+ghost use Rattle.tree.specs.Rows.{arrives, code, changed, changed_nodes, occupied, former_serves, marked, Tabled};
 
+use crate::codes::Standing;
 use crate::nodes::is_inner;
 use crate::types::{Code, Mark};
 
-// For each node, whether a code that is looked for stands at it or beneath it.
-fn spread(row: &[Code; 128], mark: Mark) -> [bool; 256]
-    ensures { Tabled (marked mark row.now) result }
-{
-    let mut found = [false; 256];
-    for n in (1..256).rev() {
-        found[n] = if n < 128 {
-            found[2 * n] | found[2 * n + 1]
-        } else {
-            mark.on(row[n - 128])
-        };
-    }
-    found
-}
-
-/// A row of codes with the marks of all nodes, made once for a plan.
+/// A row of codes with what stands at all nodes, made once for a plan.
 #[derive(Drop)]
 pub struct Board {
     row: [Code; 128],
-    change: [bool; 256],
-    presence: [bool; 256],
-    stay: [bool; 256],
-    departure: [bool; 256],
-    ghost changes: { Tabled (stands moves row) change },
-    ghost presences: { Tabled (occupied row) presence },
-    ghost stayings: { Tabled (stands stays row) stay },
-    ghost departures: { Tabled (stands departs row) departure },
+    nodes: [Standing; 256],
+    ghost tabled: { Tabled row nodes },
 }
 
 impl Board {
@@ -40,32 +20,27 @@ impl Board {
     pub fn new(row: &[Code; 128]) -> Board
         ensures { result.row ≡ row.now }
     {
-        let change = spread(row, Mark::Change);
-        let presence = spread(row, Mark::Presence);
-        let stay = spread(row, Mark::Stay);
-        let departure = spread(row, Mark::Departure);
-        Board {
-            row: *row,
-            change,
-            presence,
-            stay,
-            departure,
+        let mut nodes = [Standing::default(); 256];
+        // By number: half of a node's number is its parent's.
+        for n in (1..256).rev() {
+            nodes[n] = if n < 128 {
+                nodes[2 * n].or(nodes[2 * n + 1])
+            } else {
+                Standing::from(row[n - 128])
+            };
         }
+        Board { row: *row, nodes }
     }
 
     /// Whether a code that is looked for stands at `n` or beneath it.
     pub fn stands(&self, mark: Mark, n: u8) -> bool
         ensures { result ≡ marked mark self.now.row n }
     {
-        match mark {
-            Mark::Change => self.change[n as usize],
-            Mark::Presence => self.presence[n as usize],
-            Mark::Stay => self.stay[n as usize],
-            Mark::Departure => self.departure[n as usize],
-        }
+        self.nodes[n as usize].has(mark)
     }
 
     /// Whether `n` gets a new key.
+    #[tactic(auto, unfolding(crate::specs::Rows::changed))]
     pub fn is_changed(&self, n: u8) -> bool
         ensures { result ≡ changed self.now.row n }
     {
@@ -76,13 +51,7 @@ impl Board {
     pub fn changed_count(&self) -> usize
         ensures { result ≡ length (changed_nodes self.now.row) }
     {
-        let mut count = 0;
-        for n in 1..128u8 {
-            if self.is_changed(n) {
-                count += 1;
-            }
-        }
-        count
+        (1..128u8).filter(|n| self.is_changed(*n)).count()
     }
 
     /// Whether somebody is at `n` or beneath it after the change.

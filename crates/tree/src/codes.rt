@@ -1,21 +1,22 @@
 //! Codes by their numbers, and what is looked for among them.
-ghost use Rattle.std.specs.Prelude.{◌≡◌};
-ghost use Rattle.tree.specs.Rows.{code_of, marks};
+ghost use Rattle.std.specs.Prelude.{◌≡◌, ok_or};
+ghost use Rattle.tree.specs.Rows.{code_of, marks, standing_of, either, says};
 
-use crate::types::{Code, Mark};
+use crate::types::{Code, Mark, UnknownCode};
 
-impl Code {
-    /// The code of that number, 0 to 4.
-    pub fn from_number(number: u8) -> Option<Code>
-        ensures { result ≡ code_of number }
-    {
+impl TryFrom<u8> for Code {
+    type Error = UnknownCode;
+
+    ghost try_from_gives = { λ number result. result ≡ ok_or (code_of number) (record { 0 = number }) };
+
+    fn try_from(number: u8) -> Result<Code, UnknownCode> {
         match number {
-            0 => Some(Code::Empty),
-            1 => Some(Code::Stays),
-            2 => Some(Code::Arrives),
-            3 => Some(Code::Departs),
-            4 => Some(Code::Swaps),
-            _ => None,
+            0 => Ok(Code::Empty),
+            1 => Ok(Code::Stays),
+            2 => Ok(Code::Arrives),
+            3 => Ok(Code::Departs),
+            4 => Ok(Code::Swaps),
+            _ => Err(UnknownCode(number)),
         }
     }
 }
@@ -30,6 +31,55 @@ impl Mark {
             Mark::Presence => matches!(code, Code::Stays | Code::Arrives | Code::Swaps),
             Mark::Stay => matches!(code, Code::Stays),
             Mark::Departure => matches!(code, Code::Departs | Code::Swaps),
+        }
+    }
+}
+
+/// Which marks stand at a node or beneath it.
+#[derive(Clone, Copy, Default)]
+pub struct Standing {
+    pub change: bool,
+    pub presence: bool,
+    pub stay: bool,
+    pub departure: bool,
+}
+
+impl From<Code> for Standing {
+    ghost from_gives = { λ code standing. standing ≡ standing_of code };
+
+    /// The marks of one code.
+    fn from(code: Code) -> Standing {
+        Standing {
+            change: Mark::Change.on(code),
+            presence: Mark::Presence.on(code),
+            stay: Mark::Stay.on(code),
+            departure: Mark::Departure.on(code),
+        }
+    }
+}
+
+impl Standing {
+    /// The marks of either.
+    pub fn or(self, other: Standing) -> Standing
+        ensures { result ≡ either self other }
+    {
+        Standing {
+            change: self.change | other.change,
+            presence: self.presence | other.presence,
+            stay: self.stay | other.stay,
+            departure: self.departure | other.departure,
+        }
+    }
+
+    /// Whether the mark is one of them.
+    pub fn has(self, mark: Mark) -> bool
+        ensures { result ≡ says self mark }
+    {
+        match mark {
+            Mark::Change => self.change,
+            Mark::Presence => self.presence,
+            Mark::Stay => self.stay,
+            Mark::Departure => self.departure,
         }
     }
 }

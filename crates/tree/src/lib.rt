@@ -17,13 +17,13 @@ mod types;
 
 pub use board::Board;
 pub use nodes::{is_beneath, is_inner, is_leaf, is_within, parent};
-pub use types::{Code, Mark, Opener, Pair, PlanFault};
+pub use types::{Code, Mark, Opener, Pair, PlanFault, UnknownCode};
 
 /// One lawful plan for every row of codes.
 pub trait Strategy {
     ghost planned: { List Codes → List Pairs };
 
-    /// Writes the plan to the front of `pairs`, and answers how many pairs it has.
+    /// Writes the plan to the front of `pairs`, and answers how many pairs it has. The pairs are lent: no call allocates.
     fn plan(&self, row: &[Code; 128], pairs: &mut [Pair]) -> Result<usize, PlanFault>
         ensures answer { told refusal_of result ≡ plan_verdict (planned row.now) pairs.old }
         ensures written { pairs.new ≡ plan_leaves (planned row.now) pairs.old };

@@ -10,6 +10,7 @@ pub fn parent(n: u8) -> u8
 }
 
 /// Whether `m` is the node `n` or beneath it.
+#[tactic(auto, using(crate::proofs::Halvings::walk))]
 pub fn is_within(m: u8, n: u8) -> bool
     ensures { result ≡ within m n }
 {

@@ -1,7 +1,7 @@
 //! Codes, openers and pairs, and the refusal of a strategy's call.
 
 /// What a change does at a cradle.
-#[derive(Clone, Copy)]
+#[derive(Clone, Copy, PartialEq, Eq, Debug)]
 pub enum Code {
     /// Empty before and after.
     Empty,
@@ -15,8 +15,12 @@ pub enum Code {
     Swaps,
 }
 
+/// A number that no code has.
+#[derive(Clone, Copy, PartialEq, Eq, Debug)]
+pub struct UnknownCode(pub u8);
+
 /// What is looked for among the codes beneath a node.
-#[derive(Clone, Copy)]
+#[derive(Clone, Copy, PartialEq, Eq, Debug)]
 pub enum Mark {
     /// Somebody arrives or departs.
     Change,
@@ -29,14 +33,14 @@ pub enum Mark {
 }
 
 /// The key that opens a wrap: a node's key after the change, or the one before it.
-#[derive(Clone, Copy)]
+#[derive(Clone, Copy, PartialEq, Eq, Debug)]
 pub enum Opener {
     Present(u8),
     Former(u8),
 }
 
 /// A wrap to be made: the new key of the node `content`, under an opener.
-#[derive(Clone, Copy)]
+#[derive(Clone, Copy, PartialEq, Eq, Debug)]
 pub struct Pair {
     pub opener: Opener,
     pub content: u8,

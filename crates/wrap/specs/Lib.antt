@@ -1,2 +1,3 @@
 pub mod Refusals
 pub mod Calls
+pub mod Kinds

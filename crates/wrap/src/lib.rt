@@ -8,9 +8,11 @@ ghost use Rattle.wrap.specs.Refusals.{refusal_of};
 ghost use Rattle.wrap.specs.Calls.{wiped, seal_verdict, seal_leaves, open_verdict, open_leaves};
 
 mod fault;
+mod kind;
 mod working;
 
 pub use fault::WrapFault;
+pub use kind::{Kind, UnknownKind};
 pub use working::Working;
 
 /// The least number of working bytes that a call takes.
@@ -29,7 +31,7 @@ pub trait Wrap {
     // Of a key, a name and sealed bytes: the content, if they open.
     ghost opened: { List ℕ → List ℕ → List ℕ → Option (List ℕ) };
 
-    /// The number that stands for this wrap in a file.
+    /// The number that stands for this wrap in a file. A number, since there may be other wraps than those of `Kind`.
     fn kind(&self) -> u8
         ensures { result ≡ wrap_kind };
 
@@ -37,6 +39,7 @@ pub trait Wrap {
     fn sealed_len(&self) -> usize
         ensures { result ≡ wrap_length };
 
+    // Key, name and working bytes go apart, keys and names by value: that is how other languages will call it.
     /// Seals `content` over the whole of `out`; may leave anything in `work`.
     fn seal_to(
         &self,
@@ -107,13 +110,9 @@ pub trait Wrap {
         if bytes.len() != self.sealed_len() {
             return Err(WrapFault::DoesNotOpen);
         }
-        match self.open_from(key, name, bytes, guard.bytes) {
-            Some(content) => {
-                *place = content;
-                Ok(())
-            }
-            None => Err(WrapFault::DoesNotOpen),
-        }
+        let content = self.open_from(key, name, bytes, guard.bytes);
+        *place = content.ok_or(WrapFault::DoesNotOpen)?;
+        Ok(())
     }
 
     ghost kind_range: { (1 ≤ wrap_kind) × (wrap_kind ≤ 255) };

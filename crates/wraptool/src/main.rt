@@ -1,18 +1,19 @@
 //! Answers lines of standard input: AES, AES-CMAC, AES-SIV, and sealing and opening a key.
 #![tactic(auto)]
 
-mod bad;
 mod commands;
+mod fault;
 
-use bad::Bad;
-use commands::{Answer, carry_out};
+use commands::carry_out;
+use fault::Fault;
 use hex_text::Hex;
 use std::alloc::Global;
 use std::io::{BufRead, BufReader};
 
-fn answer_line(heap: Global, line: &[u8]) -> Result<Option<Answer>, Bad> {
+// The bytes that answer a line; `None` if it has no word.
+fn answer_line(heap: Global, line: &[u8]) -> Result<Option<Vec<u8>>, Fault> {
     let Ok(text) = std::str::from_utf8(line) else {
-        return Err(Bad::NotText);
+        return Err(Fault::NotText);
     };
     let words: Vec<&str> = text.split_ascii_whitespace().collect(heap)?;
     match words.as_slice() {
@@ -23,18 +24,16 @@ fn answer_line(heap: Global, line: &[u8]) -> Result<Option<Answer>, Bad> {
 
 fn run(rt: &HostRuntime) -> anyhow::Result<()> {
     let heap = rt.alloc();
-    let mut number = 0u64;
-    for line in BufReader::new(heap, rt.stdin())?.split(heap, b'\n') {
-        let line = line?;
-        number = number.saturating_add(1);
-        match answer_line(heap, line.as_slice()) {
+    let lines = BufReader::new(heap, rt.stdin())?.split(heap, b'\n');
+    for (i, line) in lines.enumerate() {
+        match answer_line(heap, line?.as_slice()) {
             Ok(None) => {}
-            Ok(Some(Answer::Bytes(bytes))) => {
+            Ok(Some(bytes)) => {
                 let digits = Hex(bytes.as_slice());
                 println!(rt; "{digits}")?;
             }
-            Ok(Some(Answer::Refused(refusal))) => println!(rt; "no {refusal}")?,
-            Err(bad) => println!(rt; "bad line {number}: {bad}")?,
+            Err(refused @ Fault::Refused(_)) => println!(rt; "{refused}")?,
+            Err(bad) => println!(rt; "bad line {}: {bad}", i + 1)?,
         }
     }
     Ok(())

@@ -1,13 +1,7 @@
-use Rattle.std.proofs.Common.{◌≡◌, ◌+◌, ◌*◌, ◌/◌, length, take, ap, ◌∙◌, arith, rules}
+use Rattle.std.proofs.Common.{◌≡◌, ◌+◌, ◌*◌, ◌/◌, length, take, ap, ◌∙◌, rules}
 use Rattle.aes.specs.KeySchedule.{expanded}
 use Rattle.aes.proofs.Words.{key_words, key_expanded}
 use Rattle.aes.proofs.key_expansion.Goals as goal
-
-pub expand_words-requires : goal.expand_words-requires
-expand_words-requires g c =
-    let words = key_words g.row.N c.requires.length in
-    let long : length c.put.new.s ≡ length c.args.w.now = search rules in
-    record { least = words.0; most = words.1; room = omega (arith, words.2, long, c.requires.room) }
 
 pub returns : goal.returns
 returns g c =

@@ -1,26 +1,32 @@
-use Rattle.std.proofs.Common.{◌+◌, ◌*◌, ◌<◌, ◌≤◌, length, drop, vec_items, ap, ◌∙◌, arith}
-use Rattle.hex_text.specs.Digits.{decoded}
-use Rattle.hex_text.proofs.Decoding.{after, after_none, after_more, after_all, stopped, odd}
+use Rattle.std.proofs.Common.{◌≡◌, ◌+◌, ◌*◌, ◌/◌, length, drop, vec_items, Some, None, sym, ap, ◌∙◌, arith}
+use Rattle.std.proofs.lemmas.Bool.Decides.{nat_tests}
+use Rattle.std.proofs.lemmas.Result.{err_from_is_err_and}
+use Rattle.hex_text.proofs.Decoding.{after, after_none, after_more, after_all, stopped, odd, pairs_say, in_pairs}
 use Rattle.hex_text.proofs.decode.Goals as goal
 
-pub returns-then-text-ne0 : goal.returns-then-text-ne0
-returns-then-text-ne0 c = odd c.args.text.now c.if-text-ne0.true
+pub returns-then-not-is_empty : goal.returns-then-not-is_empty
+returns-then-not-is_empty c = odd c.args.text.now (λ even. grind (arith, nat_tests))
 
-pub loop-i-init : goal.loop-i-init
-loop-i-init c = ap (λ xs. after xs (decoded c.args.text.now)) c.new-out.ensures.items ∙ after_none c.args.text.now
+pub loop-high-init : goal.loop-high-init
+loop-high-init c =
+    let whole : length c.args.text.now ≡ length c.args.text.now / 2 * 2 = grind (arith, nat_tests) in
+    ap (λ xs. after xs (pairs_say c.as_chunks.result.0.now)) c.new-out.ensures.items
+    ∙ after_none (pairs_say c.as_chunks.result.0.now)
+    ∙ ap pairs_say c.as_chunks.ensures.front
+    ∙ in_pairs (length c.args.text.now / 2) c.args.text.now whole
 
-pub returns-in_default : goal.returns-in_default
-returns-in_default c =
-    let here : 2 * c.loop-i.i + 1 < length c.args.text.now = omega arith in
-    stopped c.args.text.now (vec_items c.loop-i.out) c.loop-i.i here c.loop-i.invariant c.in_default.ensures
+pub returns-in_err-byte : goal.returns-in_err-byte
+returns-in_err-byte c =
+    let none : c.pair.result ≡ None = grind arith in
+    let e = stopped c.args.text.now (vec_items c.loop-high.out) c.as_chunks.result.0.now c.loop-high.high-index c.loop-high.invariant c.loop-high-test.true (sym none ∙ c.pair.ensures) in
+    let p = err_from_is_err_and c.from_residual.result c.from_residual.ensures.1 in
+    rw (p.1, p.2) (grind arith)
 
-pub loop-i-preserved : goal.loop-i-preserved
-loop-i-preserved c =
-    let here : 2 * c.loop-i.i + 1 < length c.args.text.now = omega arith in
-    ap (λ xs. after xs (decoded (drop (2 * (c.loop-i.i + 1)) c.args.text.now))) c.in_ok-push.ensures.items
-    ∙ after_more c.args.text.now (vec_items c.loop-i.out) c.loop-i.i c.in-Some.b here c.loop-i.invariant c.in-Some.ensures
+pub loop-high-preserved : goal.loop-high-preserved
+loop-high-preserved c =
+    let some : c.pair.result ≡ Some c.in_ok-byte.byte = grind arith in
+    ap (λ xs. after xs (pairs_say (drop (c.loop-high.high-index + 1) c.as_chunks.result.0.now))) c.in_ok-push.ensures.items
+    ∙ after_more c.args.text.now (vec_items c.loop-high.out) c.as_chunks.result.0.now c.loop-high.high-index c.loop-high.invariant c.in_ok-byte.byte c.loop-high-test.true (sym some ∙ c.pair.ensures)
 
 pub returns : goal.returns
-returns c =
-    let end : length c.args.text.now ≤ 2 * c.loop-i.i = omega arith in
-    after_all c.args.text.now (vec_items c.loop-i.out) c.loop-i.i end c.loop-i.invariant
+returns c = after_all c.args.text.now (vec_items c.loop-high.out) c.as_chunks.result.0.now c.loop-high.high-index c.loop-high.invariant c.loop-high-test.false

@@ -1,12 +1,12 @@
 use Rattle.std.proofs.Common.{ℕ, List, [], ◌∷◌, refl, ap, ◌∙◌}
-use Rattle.aes.specs.Cipher.{cipher}
+use Rattle.aes.specs.Keyed.{enciphered}
 use Rattle.siv.specs.S2v.{gathered}
 use Rattle.siv.proofs.Vectors.{s2v_short, s2v_long}
 use Rattle.siv.proofs.s2v.synthetic_iv.Goals as goal
 
 pub returns-then-text-lt16 : goal.returns-then-text-lt16
 returns-then-text-lt16 c =
-    let e = cipher 10 c.args.w.now in
+    let e = enciphered c.args.w in
     let strings = c.args.string.now ∷ [] in
     let d = c.gather-d.ensures ∙ ap (λ (u : List ℕ). gathered e u strings) c.mac.ensures in
     record {
@@ -16,7 +16,7 @@ returns-then-text-lt16 c =
 
 pub returns-else-text-lt16 : goal.returns-else-text-lt16
 returns-else-text-lt16 c =
-    let e = cipher 10 c.args.w.now in
+    let e = enciphered c.args.w in
     let strings = c.args.string.now ∷ [] in
     let d = c.gather-d.ensures ∙ ap (λ (u : List ℕ). gathered e u strings) c.mac.ensures in
     record {

@@ -1,36 +1,21 @@
-use Rattle.std.proofs.Common.{◌≡◌, ℕ, suc, ◌+◌, ◌-◌, ◌<◌, Bool, true, false, ◌⊎◌, List, length, sym, ap, ◌∙◌, inl, inr, arith}
-use Rattle.tree.specs.declared.types.Code.{Code}
-use Rattle.tree.specs.Rows.{changed}
-use Rattle.tree.proofs.Standing.{changed_up_to, changed_none, changed_yes, changed_no, changed_all}
+use Rattle.std.proofs.Common.{◌≡◌, ℕ, Bool, cond, length, filter, reverse, sym, ◌∙◌, refl, rules}
+use Rattle.std.specs.List.{range_with_len}
+use Rattle.std.proofs.lemmas.List.Sums.{length-filter}
+use Rattle.std.proofs.lemmas.List.Sorted.{IsPermutation-reverse, sum_by-IsPermutation}
+use Rattle.std.proofs.lemmas.Iterator.{YieldsList-from_range}
+use Rattle.std.proofs.lemmas.Iterator.Consumers.{YieldsList-at, YieldsList-from_filter, count_from_yields_List}
+use Rattle.tree.specs.Tree.{inners}
+use Rattle.tree.specs.Rows.{changed, changed_nodes}
 use Rattle.tree.proofs.board.Board.changed_count.Goals as goal
-use Rattle.tree.proofs.board.Board.changed_count.Goals.{then-is_changed, else-is_changed}
 
-pub loop-n-init : goal.loop-n-init
-loop-n-init c = (sym (ap length (changed_none c.args.self.now.row)), omega arith)
-
-pub overflow_add-count : goal.overflow_add-count
-overflow_add-count c = record { fits = omega (arith, c.loop-n.invariant.1) }
-
--- one node more
-turn : (row : List Code) (n count count' : ℕ) (t : Bool) → 0 < n → t ≡ changed row n → (count ≡ length (changed_up_to row (n - 1))) × (count < n) →
-    ((t ≡ true) × (count' ≡ count + 1)) ⊎ ((t ≡ false) × (count' ≡ count)) → (count' ≡ length (changed_up_to row (n + 1 - 1))) × (count' < n + 1)
-turn row n count count' t l e inv way =
-    let this : n ≡ suc (n - 1) = omega arith in
-    let next : suc (n - 1) ≡ n + 1 - 1 = omega arith in
-    let up = ap (λ k. length (changed_up_to row k)) next in
-    elim way [
-      | inl (y, q) ↦ (omega (arith, inv.0, q, ap length (changed_yes row (n - 1) (sym (e ∙ ap (changed row) this) ∙ y)), up), omega arith)
-      | inr (y, q) ↦ (omega (arith, inv.0, q, ap length (changed_no row (n - 1) (sym (e ∙ ap (changed row) this) ∙ y)), up), omega arith)
-    ]
-
-pub loop-n-preserved : goal.loop-n-preserved
-loop-n-preserved c =
-    let l = c.loop-n in
-    turn c.args.self.now.row l.n l.count c.if-is_changed.count c.is_changed.result (omega arith) c.is_changed.ensures l.invariant
-    (elim c.if-is_changed.branch [ then-is_changed w ↦ inl (w.if-is_changed.true, w.count-is) | else-is_changed w ↦ inr (w.if-is_changed.false, w.count-is) ])
+-- as many pass of the inner nodes rising as of them falling
+rising : (test : ℕ → Bool) → length (filter test (range_with_len 1 127)) ≡ length (filter test inners)
+unfolding inners
+rising test = let xs = range_with_len 1 127 in length-filter test xs ∙ sym (sum_by-IsPermutation (λ n. cond (test n) 1 0) xs (reverse xs) (IsPermutation-reverse xs)) ∙ sym (length-filter test (reverse xs))
 
 pub returns : goal.returns
+unfolding changed_nodes
 returns c =
-    let row = c.args.self.now.row in
-    let e : c.loop-n.n - 1 ≡ 127 = omega arith in
-    c.loop-n.invariant.0 ∙ ap (λ k. length (changed_up_to row k)) e ∙ ap length (changed_all row)
+    let test = changed c.args.self.now.row in
+    let nodes = YieldsList-at c.filter.ensures.source (YieldsList-from_range 1 128 127 refl refl) in
+    count_from_yields_List c.filter.result _ c.count.ensures.ran (YieldsList-from_filter _ test nodes c.filter.ensures.closure (λ x b q k. search rules)) ∙ rising test

@@ -1,0 +1,11 @@
+//! The key schedule.
+ghost use Rattle.std.specs.Prelude.{◌+◌, ◌*◌, ◌≤◌, length};
+
+/// A key's schedule, in lent bytes: a round key of 16 bytes for each of `rounds` rounds, and one before them.
+#[derive(Clone, Copy)]
+pub struct Schedule<'a> {
+    pub bytes: &'a [u8],
+    pub rounds: usize,
+    ghost some: { 1 ≤ rounds },
+    ghost whole: { 16 * rounds + 16 ≤ length bytes.now },
+}
