@@ -4,7 +4,7 @@ use Rattle.std.specs.Option.{option_or}
 use Rattle.byte_strings.specs.Numbers.{byte_at}
 use Rattle.rekey.specs.Fields.{field, fault}
 use Rattle.rekey.specs.Layout.{node_right, node_fields, wrap_fields, wraps_fields}
-use Rattle.layout.proofs.Faults.{fault_++}
+use Rattle.rekey.proofs.Faults.{fault_++}
 
 pub nodes_more : (bs : List ℕ) (at before left : ℕ) → 0 < left → fault (length bs) (node_fields bs at before left) ≡ fault (length bs) (field at 1 (node_right before (left - 1) (byte_at bs at)) ∷ node_fields bs (at + 1) (byte_at bs at) (left - 1))
 nodes_more bs at before zero h = absurd (omega arith)

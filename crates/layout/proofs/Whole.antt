@@ -1,12 +1,13 @@
 -- The whole check, from its parts: head, changed nodes, number of wraps, wraps.
-use Rattle.std.proofs.Common.{◌≡◌, ℕ, ◌+◌, true, not, List, length, take, drop, is_some, OnOk, Some, None, Ok, Err, Option, Result, sym, refl, ap, ◌∙◌, arith}
+use Rattle.std.proofs.Common.{◌≡◌, ℕ, ◌+◌, true, not, List, length, take, drop, is_some, OnOk, None, Ok, Err, Option, Result, sym, refl, ap, ◌∙◌}
 use Rattle.std.specs.Option.{option_or}
 use Rattle.byte_strings.specs.Numbers.{byte_at, number2, number4}
 use Rattle.rekey.specs.Fields.{fault}
 use Rattle.rekey.specs.Layout.{head_fields, node_fields, count_fields, wraps_fields, layout_fault, accepted}
 use Rattle.layout.specs.declared.fault.FileFault.{FileFault}
 use Rattle.layout.specs.Judging.{judged}
-use Rattle.layout.proofs.Faults.{at_values}
+use Rattle.rekey.proofs.Faults.{none_both, at_values}
+use Rattle.rekey.proofs.Faultless.{headed}
 use Rattle.layout.proofs.Judged.{passed, stopped, goes_on}
 
 abbrev pub whole : ℕ → ℕ → List ℕ → Result (Unit {0}) FileFault
@@ -50,19 +51,11 @@ module _ (kind L : ℕ) (bs : List ℕ) (epoch nodes : ℕ) where
   unfolding after
   wraps_decide wraps h n k = ap (λ o. judged o tt) (goes_on _ _ _ _ _ k (sym (goes_on _ _ _ _ _ n (sym (after_head wraps h (passed _ _ _ k).1)))))
 
--- the head of an accepted file names the kind
-same_kind : (kind : ℕ) (bs : List ℕ) → fault (length bs) (head_fields kind bs) ≡ None → byte_at bs 2 ≡ kind
-same_kind kind bs e = grind arith
-
-none_first : (a b : Option ℕ) → option_or a b ≡ None → a ≡ None
-none_first None b e = refl
-none_first (Some p) b e = e
-
 pub accepts : (kind L : ℕ) (bs : List ℕ) → layout_fault kind L bs ≡ None → accepted L bs ≡ true
 unfolding accepted
 accepts kind L bs e =
-    let kinds = same_kind kind bs (none_first _ _ (sym (at_values kind L bs _ _ _ refl refl refl) ∙ e)) in
-    ap (λ o. not (is_some o)) (ap (λ k. layout_fault k L bs) kinds ∙ e)
+    let head = headed kind bs (none_both _ _ (sym (at_values kind L bs _ _ _ refl refl refl) ∙ e)).0 in
+    ap (λ o. not (is_some o)) (ap (λ k. layout_fault k L bs) head.third ∙ e)
 
 pub accepts_told : (kind L : ℕ) (bs : List ℕ) (r : Result (Unit {0}) FileFault) → r ≡ whole kind L bs → OnOk r (accepted L bs ≡ true)
 accepts_told kind L bs (Ok u) e = accepts kind L bs (passed (layout_fault kind L bs) tt u (sym e)).0

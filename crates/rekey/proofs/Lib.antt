@@ -1,0 +1,10 @@
+pub mod Faults
+pub mod Faultless
+pub mod Passing
+pub mod Places
+pub mod Falling
+pub mod Wraps
+pub mod Returned
+pub mod Rewritten
+pub mod Planned
+pub mod Accepted

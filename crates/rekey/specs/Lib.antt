@@ -3,3 +3,4 @@ pub mod Fields
 pub mod Layout
 pub mod Reading
 pub mod Sealing
+pub mod Laws

@@ -2,7 +2,8 @@ use Rattle.std.proofs.Common.{◌≡◌, ◌+◌, arith}
 use Rattle.byte_strings.specs.Numbers.{byte_at}
 use Rattle.rekey.specs.Layout.{wrap_count}
 use Rattle.rekey.specs.Reading.{wrap_place}
-use Rattle.reader.proofs.Laid.{wraps_many, wraps_nth, placed_wraps}
+use Rattle.rekey.proofs.Rewritten.{wraps_many}
+use Rattle.reader.proofs.Laid.{wraps_nth, placed_wraps}
 use Rattle.reader.proofs.wraps_in_order.Goals as goal
 
 pub returns : goal.returns

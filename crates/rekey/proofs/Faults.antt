@@ -1,13 +1,22 @@
 -- The first fault of fields that stand in parts.
-use Rattle.std.proofs.Common.{◌≡◌, ℕ, ◌+◌, ◌≤◌, List, [], ◌∷◌, ◌++◌, length, take, drop, None, Option, refl, ap, ◌∙◌, arith}
+use Rattle.std.proofs.Common.{◌≡◌, ℕ, ◌+◌, true, not, List, [], ◌∷◌, ◌++◌, length, take, drop, is_some, Some, None, Option, refl, ap, ◌∙◌, arith}
 use Rattle.std.specs.Option.{option_or}
 use Rattle.byte_strings.specs.Numbers.{byte_at, number2, number4}
 use Rattle.rekey.specs.Fields.{Field, fault}
-use Rattle.rekey.specs.Layout.{head_fields, node_fields, count_fields, wrap_fields, wraps_fields, nodes_of, wrap_count, layout_fault}
+use Rattle.rekey.specs.Layout.{head_fields, node_fields, count_fields, wraps_fields, nodes_of, wrap_count, layout_fault}
 
 pub fault_++ : (len : ℕ) (xs ys : List Field) → fault len (xs ++ ys) ≡ option_or (fault len xs) (fault len ys)
 fault_++ len [] ys = refl
 fault_++ len (x ∷ xs) ys = let more = fault_++ len xs ys in grind arith
+
+-- parts that have no fault together have none each
+pub none_both : (a b : Option ℕ) → option_or a b ≡ None → (a ≡ None) × (b ≡ None)
+none_both None b e = (refl, e)
+none_both (Some p) b e = let z : ◌≡◌ {A = ℕ} 0 1 = cc in absurd (omega arith)
+
+pub is_none : (o : Option ℕ) → not (is_some o) ≡ true → o ≡ None
+is_none None e = refl
+is_none (Some p) e = let z : ◌≡◌ {A = ℕ} 0 1 = grind arith in absurd (omega arith)
 
 -- the parts of a file, at the values that the parts before them gave
 abbrev pub parts : ℕ → ℕ → List ℕ → ℕ → ℕ → ℕ → Option ℕ
@@ -34,10 +43,3 @@ at_values kind L bs epoch nodes wraps e n w =
     ∙ ap (λ x. parts kind L bs x (byte_at bs 7) (wrap_count bs)) e
     ∙ ap (λ x. parts kind L bs epoch x (number2 bs (8 + x))) n
     ∙ ap (λ x. parts kind L bs epoch nodes x) w
-
--- fields that are passed end within the file
-pub count_ends : (bs : List ℕ) (at : ℕ) → fault (length bs) (count_fields bs at) ≡ None → (at + 2 ≤ length bs) × (number2 bs at ≤ 896)
-count_ends bs at e = (grind arith, grind arith)
-
-pub wrap_ends : (L epoch : ℕ) (nodes bs : List ℕ) (at : ℕ) → fault (length bs) (wrap_fields L epoch nodes bs at) ≡ None → at + 6 + L ≤ length bs
-wrap_ends L epoch nodes bs at e = grind arith

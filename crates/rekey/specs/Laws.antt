@@ -20,7 +20,7 @@ Falls b (n ∷ m ∷ ns) = (n < b) × Falls n (m ∷ ns)
 
 -- a wrap of a file of that epoch with these changed nodes
 pub record SoundWrap (L epoch : ℕ) (nodes : List ℕ) (w : Wrapped) : Type 0 where
-  pub opener_node_lem : (1 ≤ w.opener.node) × (w.opener.node ≤ 255)
+  pub opener_range : (1 ≤ w.opener.node) × (w.opener.node ≤ 255)
   pub opener_epoch : (1 ≤ w.opener.epoch) × (w.opener.epoch ≤ epoch)
   pub content_listed : In w.content nodes
   pub opener_within : Within w.opener.node w.content
@@ -28,6 +28,7 @@ pub record SoundWrap (L epoch : ℕ) (nodes : List ℕ) (w : Wrapped) : Type 0 w
   pub own_key_earlier : w.opener.node ≡ w.content → w.opener.epoch < epoch
   pub sealed_bytes : Sized L w.sealed_key
 
+-- a file that may be written
 pub record Sound (L : ℕ) (f : Rekey) : Type 0 where
   pub kind_byte : f.kind < 256
   pub epoch_range : (1 ≤ f.epoch) × (f.epoch ≤ 1000000)
