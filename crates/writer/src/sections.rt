@@ -1,0 +1,77 @@
+//! The sections of a file, each into the part of the buffer that is its own.
+ghost use Rattle.std.specs.Prelude.{◌≡◌, ◌+◌, ◌*◌, ◌≤◌, ◌++◌, length, map};
+ghost use Rattle.std.specs.List.{flat_map};
+ghost use Rattle.byte_strings.specs.Numbers.{big2};
+ghost use Rattle.keys.specs.Names.{held};
+ghost use Rattle.rekey.specs.Files.{head_bytes, nodes_bytes, wrap_bytes, written};
+ghost use Rattle.rekey.specs.Sealing.{seal_pair};
+ghost use Rattle.writer.specs.Calls.{file_of, size_of};
+
+use crate::change::Change;
+use keys::wrap_name;
+use tree::Pair;
+use wrap::Wrap;
+
+impl Change<'_> {
+    // The head, section 1, and how many wraps section 2 has.
+    fn put_front(self, kind: u8, front: &mut [u8])
+        requires room { length front.old ≡ 10 + length self.nodes.now }
+        ensures { front.new ≡ head_bytes kind self.entry.epoch ++ (nodes_bytes self.entry.nodes.now ++ big2 (length self.entry.plan.now)) }
+    {
+        let [a, b, c, d] = self.epoch.to_be_bytes();
+        let nodes = self.nodes.len() as u8;
+        let wraps = self.plan.len() as u16;
+        let (head, rest) = front.split_at_mut(8);
+        let (listed, count) = rest.split_at_mut(self.nodes.len());
+        head.copy_from_slice(&[0x4B, 0x01, kind, a, b, c, d, nodes]);
+        listed.copy_from_slice(self.nodes);
+        count.copy_from_slice(&wraps.to_be_bytes());
+    }
+
+    // The wrap of a pair: the sealed key goes straight into its place.
+    fn put_wrap<W: Wrap>(self, wrap: &W, pair: Pair, place: &mut [u8], work: &mut [u8])
+        requires room { length place.old ≡ 6 + W.wrap_length }
+        requires working { 512 ≤ length work.old }
+        ensures { place.new ≡ wrap_bytes (seal_pair W.sealed self.entry.epoch (held self.entry.former.now) (held self.entry.present.now) pair) }
+    {
+        let sealing = self.sealing(pair);
+        let content = sealing.content;
+        let name = wrap_name(sealing.opener, content);
+        let [node, a, b, c, d] = sealing.opener.to_bytes();
+        let (names, sealed) = place.split_at_mut(6);
+        names.copy_from_slice(&[node, a, b, c, d, content.node]);
+        let done = wrap.seal(sealing.opener_key, name, sealing.content_key, sealed, work);
+        let Ok(()) = done else { unreachable!() };
+    }
+
+    // The wraps of the plan, in its order.
+    #[tactic(auto, using(crate::proofs::Pieces::no_piece, crate::proofs::Pieces::next_piece, crate::proofs::Pieces::all_pieces))]
+    fn put_wraps<W: Wrap>(self, wrap: &W, section: &mut [u8], work: &mut [u8])
+        requires room { length section.old ≡ length self.plan.now * (6 + W.wrap_length) }
+        requires working { 512 ≤ length work.old }
+        ensures { section.new ≡ flat_map wrap_bytes (map (seal_pair W.sealed self.entry.epoch (held self.entry.former.now) (held self.entry.present.now)) self.entry.plan.now) }
+    {
+        let size = 6 + wrap.sealed_len();
+        // By index: what a slice holds after a loop over its chunks is not known to the prover.
+        for i in 0..self.plan.len() {
+            self.put_wrap(
+                wrap,
+                self.plan[i],
+                &mut section[i * size..(i + 1) * size],
+                work,
+            );
+        }
+    }
+
+    /// The whole file.
+    #[tactic(auto, using(crate::proofs::Whole::whole))]
+    pub(crate) fn put_file<W: Wrap>(self, wrap: &W, file: &mut [u8], work: &mut [u8])
+        requires room { length file.old ≡ size_of W.wrap_length self }
+        requires working { 512 ≤ length work.old }
+        ensures { file.new ≡ written (file_of W.wrap_kind W.sealed self.entry) }
+    {
+        let (front, section) = file.split_at_mut(10 + self.nodes.len());
+        self.put_front(wrap.kind(), front);
+        self.put_wraps(wrap, section, work);
+    }
+}
