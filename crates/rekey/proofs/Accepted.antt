@@ -15,7 +15,7 @@ use Rattle.rekey.specs.Reading.{wrap_at, wraps_from}
 use Rattle.rekey.specs.Laws.{Falls, SoundWrap, WasWritten}
 use Rattle.rekey.proofs.Faults.{none_both, at_values}
 use Rattle.rekey.proofs.Faultless.{headed, next, wraps_pass, wraps_end, count_ends, wrap_ends}
-use Rattle.rekey.proofs.Planned.{falls_more}
+use Rattle.rekey.proofs.Falling.{falls_more}
 use Rattle.rekey.proofs.Rewritten.{drop_byte, wraps_many, rewritten}
 
 nodes_fall : (bs : List ℕ) (at before left : ℕ) → 0 < left → fault (length bs) (node_fields bs at before left) ≡ None → Falls before (take left (drop at bs))

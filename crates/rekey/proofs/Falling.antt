@@ -8,6 +8,10 @@ use Rattle.rekey.specs.Laws.{Falls}
 use Rattle.rekey.proofs.Passing.{AllPass}
 use Rattle.rekey.proofs.Places.{at_first, further}
 
+pub falls_more : (b n : ℕ) (ns : List ℕ) → n < b → Falls n ns → Falls b (n ∷ ns)
+falls_more b n [] h f = absurd f
+falls_more b n (m ∷ ns) h f = (h, f)
+
 pub falls_few : (b : ℕ) (ns : List ℕ) → Falls b ns → (1 ≤ length ns) × (length ns < b)
 falls_few b [] f = absurd f
 falls_few b (n ∷ []) f = (omega arith, omega arith)

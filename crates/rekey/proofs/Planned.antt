@@ -1,5 +1,5 @@
 -- The file of a lawful plan is sound.
-use Rattle.std.proofs.Common.{◌≡◌, ℕ, zero, suc, ◌<◌, ◌≤◌, Bool, true, false, cond, List, [], ◌∷◌, filter, sym, refl, ap, ◌∙◌, subst, arith}
+use Rattle.std.proofs.Common.{◌≡◌, ℕ, zero, suc, ◌<◌, ◌≤◌, Bool, true, false, cond, List, ◌∷◌, filter, sym, refl, ap, ◌∙◌, subst, arith}
 use Rattle.std.proofs.lemmas.List.{length-map}
 use Rattle.byte_strings.specs.Strings.{Sized}
 use Rattle.byte_strings.proofs.Parts.{append_bytes}
@@ -18,10 +18,7 @@ use Rattle.rekey.specs.Files.{Wrapped}
 use Rattle.rekey.specs.Sealing.{Sealing, seal_pair, rekey_of}
 use Rattle.rekey.specs.Laws.{Falls, SoundWrap, Sound, Timely, SealsTo}
 use Rattle.rekey.proofs.Places.{big4_bytes}
-
-pub falls_more : (b n : ℕ) (ns : List ℕ) → n < b → Falls n ns → Falls b (n ∷ ns)
-falls_more b n [] h f = absurd f
-falls_more b n (m ∷ ns) h f = (h, f)
+use Rattle.rekey.proofs.Falling.{falls_more}
 
 -- those that pass of k, k - 1, .. 1, if 1 does
 falls_kept : (test : ℕ → Bool) (b k : ℕ) → 0 < k → k < b → test 1 ≡ true → Falls b (filter test (falling k))
