@@ -6,20 +6,21 @@ use Rattle.std.specs.Fn.{Called}
 use Rattle.std.specs.List.{range_with_len}
 use denote.Param.Members.{Mut}
 
-module _ {F : Type 0} (g : Mut F (ℕ × Unit {0}) ℕ) (h : ℕ → ℕ) (f : F) (gives : (x y : ℕ) (q : F) → Called g f (x, tt) y q → (y ≡ h x) × (q ≡ f)) (ys : List ℕ) where
+module _ {F B : Type 0} (g : Mut F (ℕ × Unit {0}) B) (h : ℕ → B) (f : F) (gives : (x : ℕ) (y : B) (q : F) → Called g f (x, tt) y q → (y ≡ h x) × (q ≡ f)) (ys : List B) where
   made_from : (n i : ℕ) → length ys ≡ i + n → IsFromFnResultFrom g f ys i n → drop i ys ≡ map h (range_with_len i n)
   made_from zero i long made = drop_all i ys (omega arith)
   made_from (suc n) i long (q, y, here, call, rest) =
       let inside : i < length ys = omega arith in
       let on : length ys ≡ i + 1 + n = omega arith in
       let one = gives i y q call in
-      drop_more ys i 0 inside
-      ∙ ap₂ (λ (v : ℕ) (l : List ℕ). v ∷ l) (here.1 0 ∙ one.0) (made_from n (i + 1) on (subst (λ (p : F). IsFromFnResultFrom g p ys (i + 1) n) one.1 rest))
+      drop_more ys i y inside
+      ∙ ap₂ (λ (v : B) (l : List B). v ∷ l) (here.1 y ∙ one.0) (made_from n (i + 1) on (subst (λ (p : F). IsFromFnResultFrom g p ys (i + 1) n) one.1 rest))
 
   pub made_by : (n : ℕ) → IsFromFnResult g f ys n → ys ≡ map h (range_with_len 0 n)
   made_by n made = made_from n 0 (made.long ∙ omega arith) made.each
 
-  mapped_from : (xs : List ℕ) (n i : ℕ) → length xs ≡ i + n → length ys ≡ i + n → MapsFrom g f xs ys i n → drop i ys ≡ map h (drop i xs)
+module _ {F A B : Type 0} (g : Mut F (A × Unit {0}) B) (h : A → B) (f : F) (gives : (x : A) (y : B) (q : F) → Called g f (x, tt) y q → (y ≡ h x) × (q ≡ f)) (ys : List B) where
+  mapped_from : (xs : List A) (n i : ℕ) → length xs ≡ i + n → length ys ≡ i + n → MapsFrom g f xs ys i n → drop i ys ≡ map h (drop i xs)
   mapped_from xs zero i lx ly made = drop_all i ys (omega arith) ∙ sym (ap (map h) (drop_all i xs (omega arith)))
   mapped_from xs (suc n) i lx ly (q, x, y, from, here, call, rest) =
       let inx : i < length xs = omega arith in
@@ -27,9 +28,9 @@ module _ {F : Type 0} (g : Mut F (ℕ × Unit {0}) ℕ) (h : ℕ → ℕ) (f : F
       let onx : length xs ≡ i + 1 + n = omega arith in
       let ony : length ys ≡ i + 1 + n = omega arith in
       let one = gives x y q call in
-      drop_more ys i 0 iny
-      ∙ ap₂ (λ (v : ℕ) (l : List ℕ). v ∷ l) (here.1 0 ∙ one.0 ∙ ap h (sym (from.1 0))) (mapped_from xs n (i + 1) onx ony (subst (λ (p : F). MapsFrom g p xs ys (i + 1) n) one.1 rest))
-      ∙ sym (ap (map h) (drop_more xs i 0 inx))
+      drop_more ys i y iny
+      ∙ ap₂ (λ (v : B) (l : List B). v ∷ l) (here.1 y ∙ one.0 ∙ ap h (sym (from.1 x))) (mapped_from xs n (i + 1) onx ony (subst (λ (p : F). MapsFrom g p xs ys (i + 1) n) one.1 rest))
+      ∙ sym (ap (map h) (drop_more xs i x inx))
 
-  pub mapped : (xs : List ℕ) (n : ℕ) → length xs ≡ n → IsMapOf g f xs ys n → ys ≡ map h xs
+  pub mapped : (xs : List A) (n : ℕ) → length xs ≡ n → IsMapOf g f xs ys n → ys ≡ map h xs
   mapped xs n long made = mapped_from xs n 0 (long ∙ omega arith) (made.long ∙ omega arith) made.each

@@ -8,6 +8,10 @@ at_byte [] i h = lit< tt
 at_byte (x ∷ xs) zero h = h.0
 at_byte (x ∷ xs) (suc i) h = at_byte xs i h.1
 
+pub bytes_at : (s : List ℕ) → ((i : ℕ) → get_or s i 0 < 256) → Bytes s
+bytes_at [] h = tt
+bytes_at (x ∷ xs) h = (h 0, bytes_at xs (λ i. h (suc i)))
+
 pub append_bytes : (s t : List ℕ) → Bytes s → Bytes t → Bytes (s ++ t)
 append_bytes [] t h k = k
 append_bytes (x ∷ s) t h k = (h.0, append_bytes s t h.1 k)

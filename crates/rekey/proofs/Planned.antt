@@ -8,11 +8,11 @@ use Rattle.tree.specs.declared.types.Code.{Code}
 use Rattle.tree.specs.declared.types.Opener.{Opener}
 use Rattle.tree.specs.declared.types.Opener.TheVariants.{Present, Former}
 use Rattle.tree.specs.declared.types.Pair.{Pair}
-use Rattle.tree.specs.Tree.{Beneath, inners, falling}
+use Rattle.tree.specs.Tree.{inners, falling}
 use Rattle.tree.specs.Plans.{pair, MayOpen, Lawful}
 use Rattle.tree.specs.Rows.{seats, stays, stands, changed, occupied, changed_nodes}
 use Rattle.tree.proofs.Members.{in_map}
-use Rattle.tree.proofs.Halvings.{halved_low, beneath_within}
+use Rattle.tree.proofs.Halvings.{beneath_greater, halved_low, beneath_within}
 use Rattle.tree.proofs.Standing.{stands_is, changed_inner, changed_in}
 use Rattle.rekey.specs.Files.{Wrapped}
 use Rattle.rekey.specs.Sealing.{Sealing, seal_pair, rekey_of}
@@ -42,10 +42,6 @@ name_sized a b ea eb ha hb = (refl, append_bytes (name_bytes (named a ea)) (name
 occupied_node : (row : List Code) (o : ℕ) → occupied row o ≡ true → o < 256
 unfolding occupied
 occupied_node row o e = let s = stands_is seats row o e in omega (arith, halved_low s.under.0 s.at, s.under.1, s.is_leaf.1)
-
--- what is beneath a node has a greater number
-beneath_greater : (o n : ℕ) → 0 < n → Beneath o n → n < o
-beneath_greater o n h (k, e) = omega (arith, halved_low k o)
 
 module _ (L : ℕ) (seals : Sealing) (row : List Code) (epoch : ℕ) (former present : Keys) (to : SealsTo L seals) (t : Timely row epoch former present) where
   wrap_sound : (o : Opener) (n : ℕ) → changed row n ≡ true → MayOpen row n o → SoundWrap L epoch (changed_nodes row) (seal_pair seals epoch former present (pair o n))

@@ -108,6 +108,10 @@ pub within_cases : (m n : ℕ) → Within m n → (m ≡ n) ⊎ Beneath m n
 within_cases m n (zero, e) = inl e
 within_cases m n (suc k, e) = inr (k, e)
 
+-- a node beneath another has the greater number
+pub beneath_greater : (m n : ℕ) → 0 < n → Beneath m n → n < m
+beneath_greater m n h (k, e) = omega (arith, halved_low k m)
+
 -- the way to n goes through the parent
 pub beneath_parent : (m n : ℕ) → Beneath m n → Within (m / 2) n
 beneath_parent m n (k, e) = (k, halved_first k m ∙ e)
