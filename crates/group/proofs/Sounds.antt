@@ -1,0 +1,175 @@
+-- A new server is sound, and every call keeps a server sound.
+use Rattle.std.proofs.Common.{◌≡◌, ℕ, zero, suc, ◌+◌, ◌-◌, ◌<◌, ◌≤◌, Bool, true, false, cond, ltb, List, map, length, get_or, set, replicate, Some, None, Option, sym, refl, ap, ◌∙◌, subst, inl, inr, arith}
+use Rattle.std.proofs.Math.ListN.{get_or-map}
+use Rattle.std.specs.List.{position, position_or_len}
+use Rattle.std.proofs.lemmas.Bool.{cases_eq, both_ways, eq-eqb, ltb-false}
+use Rattle.std.proofs.lemmas.List.Sums.{fails_before_first}
+use Rattle.std.proofs.lemmas.List.{length-map, length-set, length-replicate, get_or-set_same, get_or-set_other}
+use Rattle.std.proofs.lemmas.Option.{none-some}
+use Rattle.byte_strings.specs.Strings.{Sized}
+use Rattle.keys.specs.declared.NodeKey.{NodeKey}
+use Rattle.keys.specs.Names.{unmade, held}
+use Rattle.cradles.specs.declared.Cradle.{Cradle}
+use Rattle.cradles.specs.declared.Cradle.TheVariants.{Empty}
+use Rattle.cradles.specs.Cradles.{seated, holder, with_arrival, with_departure, without_notes}
+use Rattle.cradles.proofs.Notes.{arrival_seated, arrival_noted, departure_seated, departure_holder, cleared_seated, cleared_holder}
+use Rattle.group.specs.declared.state.State.{State}
+use Rattle.group.specs.States.{new_state, cradle, is_it, seat_of, held_by}
+use Rattle.group.specs.Calls.{Call, admit, remove, drop_notes, publish, card, Given}
+use Rattle.group.specs.Notes.{admit_verdict, remove_verdict}
+use Rattle.group.specs.Publishings.{publish_verdict}
+use Rattle.group.specs.Steps.{with_cradles, with_cradle, admitted, left_at, removed, dropped, published, after}
+use Rattle.group.specs.Sound.{Sound, Cradled}
+use Rattle.group.proofs.Renewals.{unmade_sized}
+use Rattle.group.proofs.Publishings.{publish_sound}
+use Rattle.group.proofs.Verdicts.{left_either, admit_passed, plan_passed, publish_passed}
+
+-- A new server.
+
+replicated : {A : Type 0} (n i : ℕ) (x : A) → get_or (replicate n x) i x ≡ x
+replicated zero i x = refl
+replicated (suc n) zero x = refl
+replicated (suc n) (suc i) x = replicated n i x
+
+never_made : (n : ℕ) → held new_state.nodes n ≡ unmade
+never_made n = replicated 256 n unmade
+
+all_empty : (c : ℕ) → cradle new_state c ≡ Empty
+all_empty c = replicated 128 (c - 1) Empty
+
+pub new_sound : Sound new_state
+new_sound = record {
+  cradle_count = length-replicate 128 Empty;
+  node_count = length-replicate 256 unmade;
+  keys_sized = λ n. subst (λ (k : NodeKey). Sized 32 k.key) (sym (never_made n)) unmade_sized;
+  epoch_range = omega arith;
+  seats_apart = λ c d x hc hd p q. absurd (none-some x (sym (ap seated (all_empty c)) ∙ p));
+  holders_apart = λ c d x hc hd p q. absurd (none-some x (sym (ap holder (all_empty c)) ∙ p));
+  root_epoch = ap (λ (k : NodeKey). k.made) (never_made 1);
+  epochs_rise = λ m n o b. omega (arith, ap (λ (k : NodeKey). k.made) (never_made m));
+  empty_leaves = λ c h n. never_made (127 + c);
+  seated_leaves = λ c x h n. absurd (none-some x (sym (ap seated (all_empty c)) ∙ n));
+}
+
+-- A change of notes keeps who is where, and all keys.
+
+-- once the notes are carried out, no serial is in two cradles
+abbrev HoldersApart : State → Type 0
+HoldersApart s = (c d x : ℕ) → Cradled c → Cradled d → holder (cradle s c) ≡ Some x → holder (cradle s d) ≡ Some x → c ≡ d
+
+noting_sound : (s : State) (cs : List Cradle) → Sound s → length cs ≡ 128 →
+    ((c : ℕ) → Cradled c → seated (cradle (with_cradles s cs) c) ≡ seated (cradle s c)) → HoldersApart (with_cradles s cs) → Sound (with_cradles s cs)
+noting_sound s cs sound size same apart = record {
+  cradle_count = size;
+  node_count = sound.node_count;
+  keys_sized = sound.keys_sized;
+  epoch_range = sound.epoch_range;
+  seats_apart = λ c d x hc hd p q. sound.seats_apart c d x hc hd (sym (same c hc) ∙ p) (sym (same d hd) ∙ q);
+  holders_apart = apart;
+  root_epoch = sound.root_epoch;
+  epochs_rise = sound.epochs_rise;
+  empty_leaves = λ c h n. sound.empty_leaves c h (sym (same c h) ∙ n);
+  seated_leaves = λ c x h n. sound.seated_leaves c x h (sym (same c h) ∙ n);
+}
+
+-- all notes are cleared
+drop_sound : (s : State) → Sound s → Sound (dropped s)
+drop_sound s sound = noting_sound s (map without_notes s.cradles) sound (length-map s.cradles without_notes ∙ sound.cradle_count)
+    (λ c h. ap seated (at c) ∙ cleared_seated (cradle s c))
+    (λ c d x hc hd p q. sound.seats_apart c d x hc hd (sym (hold c) ∙ p) (sym (hold d) ∙ q))
+  where
+    at : (c : ℕ) → cradle (dropped s) c ≡ without_notes (cradle s c)
+    at c = get_or-map without_notes s.cradles (c - 1) Empty
+
+    hold : (c : ℕ) → holder (cradle (dropped s) c) ≡ seated (cradle s c)
+    hold c = ap holder (at c) ∙ cleared_holder (cradle s c)
+
+-- One cradle with another note.
+
+module _ (s : State) (sound : Sound s) (c : ℕ) (it : Cradle) where
+  at_same : (d : ℕ) → Cradled d → d ≡ c → cradle (with_cradle s c it) d ≡ it
+  at_same d h e =
+      ap (λ i. get_or (set s.cradles (i - 1) it) (d - 1) Empty) (sym e) ∙ get_or-set_same s.cradles (d - 1) it Empty (omega (arith, sound.cradle_count))
+
+  at_other : (d : ℕ) → Cradled d → 1 ≤ c → (d ≡ c → ⊥) → cradle (with_cradle s c it) d ≡ cradle s d
+  at_other d h o x = get_or-set_other s.cradles (c - 1) (d - 1) it Empty (λ e. x (omega arith))
+
+  one_sound : 1 ≤ c → seated it ≡ seated (cradle s c) → HoldersApart (with_cradle s c it) → Sound (with_cradle s c it)
+  one_sound o same apart = noting_sound s (set s.cradles (c - 1) it) sound (length-set s.cradles (c - 1) it ∙ sound.cradle_count) seat apart
+    where
+      seat : (d : ℕ) → Cradled d → seated (cradle (with_cradle s c it) d) ≡ seated (cradle s d)
+      seat d h = elim (cases_eq d c) [
+        | inl e ↦ ap seated (at_same d h e) ∙ same ∙ ap (λ i. seated (cradle s i)) (sym e)
+        | inr x ↦ ap seated (at_other d h o x)
+      ]
+
+-- A departure that is noted.
+
+left_sound : (s : State) (i : Option ℕ) → Sound s → Sound (left_at s i)
+left_sound s None sound = sound
+left_sound s (Some i) sound = one_sound s sound (i + 1) it (omega arith) (departure_seated (cradle s (i + 1)))
+    (λ d e x hd he p q. sound.holders_apart d e x hd he (before d x hd p) (before e x he q))
+  where
+    it : Cradle
+    it = with_departure (cradle s (i + 1))
+
+    before : (d x : ℕ) → Cradled d → holder (cradle (with_cradle s (i + 1) it) d) ≡ Some x → holder (cradle s d) ≡ Some x
+    before d x h p = elim (cases_eq d (i + 1)) [
+      | inl e ↦ ap (λ j. holder (cradle s j)) e ∙ departure_holder (cradle s (i + 1)) x (sym (ap holder (at_same s sound (i + 1) it d h e)) ∙ p)
+      | inr y ↦ sym (ap holder (at_other s sound (i + 1) it d h (omega arith) y)) ∙ p
+    ]
+
+-- An arrival that is noted.
+
+-- none passes where none is found
+none_passes : (test : Cradle → Bool) (ks : List Cradle) (i : ℕ) → position test ks ≡ None → i < length ks → test (get_or ks i Empty) ≡ false
+none_passes test ks i e l = go (ltb (position_or_len test ks) (length ks)) refl e
+  where
+    go : (b : Bool) → ltb (position_or_len test ks) (length ks) ≡ b → cond b (Some (position_or_len test ks)) None ≡ None → test (get_or ks i Empty) ≡ false
+    go true h n = absurd (none-some (position_or_len test ks) (sym n))
+    go false h n = fails_before_first test ks i Empty (omega (arith, ltb-false (position_or_len test ks) (length ks) h))
+
+not_held : (s : State) (x c : ℕ) → Sound s → Cradled c → held_by x s ≡ None → holder (cradle s c) ≡ Some x → ⊥
+not_held s x c sound h e q =
+    both_ways (is_it x (holder (cradle s c))) (none_passes (λ k. is_it x (holder k)) s.cradles (c - 1) e (omega (arith, sound.cradle_count)))
+    (ap (is_it x) q ∙ eq-eqb x x refl)
+
+admitted_sound : (s : State) (x c : ℕ) → Sound s → 1 ≤ c → held_by x s ≡ None → holder (cradle s c) ≡ None → Sound (admitted s x c)
+admitted_sound s x c sound o out free = one_sound s sound c it o (arrival_seated (cradle s c) x) apart
+  where
+    it : Cradle
+    it = with_arrival (cradle s c) x
+
+    here : (d : ℕ) → Cradled d → d ≡ c → holder (cradle (admitted s x c) d) ≡ Some x
+    here d h e = ap holder (at_same s sound c it d h e) ∙ (arrival_noted (cradle s c) x free).1
+
+    there : (d : ℕ) → Cradled d → (d ≡ c → ⊥) → holder (cradle (admitted s x c) d) ≡ holder (cradle s d)
+    there d h n = ap holder (at_other s sound c it d h o n)
+
+    -- whoever holds another cradle is not who arrives
+    other : (d e y : ℕ) → Cradled d → Cradled e → d ≡ c → (e ≡ c → ⊥) →
+        holder (cradle (admitted s x c) d) ≡ Some y → holder (cradle (admitted s x c) e) ≡ Some y → ⊥
+    other d e y hd he q n p r = not_held s x e sound he out (sym (there e he n) ∙ r ∙ sym p ∙ here d hd q)
+
+    apart : HoldersApart (admitted s x c)
+    apart d e y hd he p r = elim (cases_eq d c) [
+      | inl q ↦ elim (cases_eq e c) [
+        | inl z ↦ q ∙ sym z
+        | inr n ↦ absurd (other d e y hd he q n p r)
+      ]
+      | inr n ↦ elim (cases_eq e c) [
+        | inl z ↦ absurd (other e d y he hd z n r p)
+        | inr m ↦ sound.holders_apart d e y hd he (sym (there d hd n) ∙ p) (sym (there e he m) ∙ r)
+      ]
+    ]
+
+-- Every call, accepted or refused.
+
+pub after_sound : (s : State) (c : Call) → Given c → Sound s → Sound (after s c)
+after_sound s (admit x c) g sound = left_either Sound (admit_verdict s x c) (admitted s x c) s
+    (λ a e. let h = admit_passed s x c e in admitted_sound s x c sound h.0.0 h.1.0 h.1.1) sound
+after_sound s (remove x) g sound = left_either Sound (remove_verdict s x) (removed s x) s (λ a e. left_sound s (seat_of x s) sound) sound
+after_sound s drop_notes g sound = drop_sound s sound
+after_sound s (publish p) g sound = left_either Sound (publish_verdict s p) (published s p.material) s
+    (λ a e. let h = plan_passed s p (publish_passed s p a e) in publish_sound s p.material sound h.0 h.1.0 g.1.1 h.1.1) sound
+after_sound s (card x buffer) g sound = sound
