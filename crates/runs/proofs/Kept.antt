@@ -1,0 +1,234 @@
+-- What every run keeps: the book agrees with the server, and what holds of seats, keys and links.
+use Rattle.std.proofs.Common.{◌≡◌, ℕ, zero, suc, ◌+◌, ◌-◌, ◌≤◌, Bool, true, false, cond, not, ◌↔◌, ◌⊎◌, List, [], ◌∷◌, ◌++◌, map, length, drop, get_or, set, replicate, Some, None, Ok, Option, is_err, leb, refl, sym, ap, ◌∙◌, subst, inl, inr, arith, get_or-set_same, get_or-set_other}
+use Rattle.std.proofs.Math.ListN.{get_or-map}
+use Rattle.std.proofs.lemmas.Bool.{and_parts, eqb-true, leb-true, cases_eq, true≢false}
+use Rattle.std.proofs.lemmas.List.{length-map}
+use Rattle.std.proofs.lemmas.List.Quantifiers.{position-Some}
+use Rattle.refusal.specs.Refusals.{Verdict, refused, if_done}
+use Rattle.tree.specs.Plans.{In}
+use Rattle.keys.specs.Names.{Keys, named, unmade, held}
+use Rattle.rekey.specs.Files.{written}
+use Rattle.rekey.specs.Sealing.{opener_name}
+use Rattle.cradles.specs.declared.Cradle.{Cradle}
+use Rattle.cradles.specs.declared.Cradle.TheVariants.{Empty}
+use Rattle.cradles.specs.Cradles.{code_of, seated, holder, departs, with_arrival, with_departure, without_notes, carried_out}
+use Rattle.group.specs.declared.state.State.{State}
+use Rattle.group.specs.declared.state.Published.{Published}
+use Rattle.group.specs.States.{cradle, row, is_it, seat_of, held_by, noted}
+use Rattle.group.specs.Calls.{Call, admit, remove, drop_notes, publish, card, Publishing, Given}
+use Rattle.group.specs.Notes.{is_serial, is_cradle, admit_free, remove_seated}
+use Rattle.group.specs.Publishings.{plan_of, file_of, size_of, plan_verdict}
+use Rattle.group.specs.Steps.{with_cradle, admitted, left_at, published, is_refused}
+use Rattle.group.specs.Sound.{Cradled, Sound}
+use Rattle.group.specs.Laws.{Renewal, StateLaws}
+use Rattle.runs.specs.Book.{Arrival, Book, next_epoch, told}
+use Rattle.runs.specs.Runs.{Edition, edition, Site, called, run, AllGiven}
+use Rattle.runs.specs.Reach.{Link}
+use Rattle.runs.specs.Law.{Readable}
+use Rattle.runs.proofs.Steady.{Steady}
+use Rattle.runs.proofs.SteadyNext.{Change, OfPlan, steady_next}
+use Rattle.runs.proofs.Agreement.{Agrees, OneOther, admit_agrees, remove_agrees, drop_agrees, publish_agrees, seats_next, ended_next}
+use Rattle.runs.proofs.Editions.{accepted_or_refused, link_more, new_edition, readable, link_new, link_is}
+
+-- the epoch of one of the files
+abbrev pub EpochOf : List Edition → ℕ → Type 0
+EpochOf files e = (x : Edition) × (In x files × (x.notice.epoch ≡ e))
+
+pub record Kept (w : Site) : Type 0 where
+  pub same_epoch : w.server.epoch ≡ w.book.epoch
+  pub agrees : Agrees (cradle w.server) w.book
+  pub steady : Steady w.book.epoch w.book.seats w.book.ended (λ n. (held w.server.nodes n).made) (Link w.files)
+  pub published_epochs : (e : ℕ) → EpochOf w.files e ↔ ((1 ≤ e) × (e ≤ w.book.epoch))
+  pub all_readable : (x : Edition) → In x w.files → Readable x
+
+-- only that cradle is another
+one_other : (s : State) (c : ℕ) (it : Cradle) → length s.cradles ≡ 128 → Cradled c → OneOther (cradle s) (cradle (with_cradle s c it)) c it
+one_other s c it n k = record {
+  here = get_or-set_same s.cradles (c - 1) it Empty (omega arith);
+  elsewhere = λ d h other. get_or-set_other s.cradles (c - 1) (d - 1) it Empty (λ e. other (omega arith));
+}
+
+-- whose test it passes
+it_is : (x : ℕ) (o : Option ℕ) → is_it x o ≡ true → o ≡ Some x
+it_is x None e = absurd (true≢false (sym e))
+it_is x (Some y) e = ap Some (eqb-true y x e)
+
+module _ (w : Site) (sound : Sound w.server) (old : Kept w) where
+  kept_with : (cradles : List Cradle) (arrivals : List Arrival) (departures : List ℕ) →
+      Agrees (λ c. get_or cradles (c - 1) Empty) (record w.book { arrivals = arrivals; departures = departures }) →
+      Kept (record { server = record w.server { cradles = cradles }; book = record w.book { arrivals = arrivals; departures = departures }; files = w.files })
+  kept_with cradles arrivals departures a = record {
+    same_epoch = old.same_epoch;
+    agrees = a;
+    steady = old.steady;
+    published_epochs = old.published_epochs;
+    all_readable = old.all_readable;
+  }
+
+  -- what an admitting leaves, by its verdict
+  abbrev admit_leaves : ℕ → ℕ → Verdict (Unit {0}) → Site
+  admit_leaves x c v = record { server = if_done v (admitted w.server x c) w.server; book = told w.book (admit x c) (is_err v); files = w.files }
+
+  admit_keeps : (x c : ℕ) → Kept (called w (admit x c))
+  admit_keeps x c = go (is_serial x) (is_cradle c) (held_by x w.server) (holder (cradle w.server c)) refl refl
+    where
+      go : (a b : Bool) (h o : Option ℕ) → is_cradle c ≡ b → holder (cradle w.server c) ≡ o →
+          Kept (admit_leaves x c (cond (not a) (refused 1 []) (cond (not b) (refused 2 []) (admit_free h o))))
+      go false b h o q e = old
+      go true false h o q e = old
+      go true true (Some i) o q e = old
+      go true true None (Some y) q e = old
+      go true true None None q e =
+          let p = and_parts (leb 1 c) (leb c 128) q in
+          let k : Cradled c = (leb-true 1 c p.0, leb-true c 128 p.1) in
+          kept_with (set w.server.cradles (c - 1) (with_arrival (cradle w.server c) x))
+          (record { serial = x; cradle = c } ∷ w.book.arrivals) w.book.departures
+          (admit_agrees (cradle w.server) (cradle (admitted w.server x c)) w.book old.agrees x c k e
+          (one_other w.server c (with_arrival (cradle w.server c) x) sound.cradle_count k))
+
+  abbrev remove_leaves : ℕ → Option ℕ → Verdict (Unit {0}) → Site
+  remove_leaves x o v = record { server = if_done v (left_at w.server o) w.server; book = told w.book (remove x) (is_err v); files = w.files }
+
+  remove_keeps : (x : ℕ) → Kept (called w (remove x))
+  remove_keeps x = go (is_serial x) (seat_of x w.server) refl
+    where
+      seat : (i : ℕ) → seat_of x w.server ≡ Some i → (d : Bool) → Kept (remove_leaves x (Some i) (cond d (refused 6 []) (Ok tt)))
+      seat i e true = old
+      seat i e false =
+          let found = position-Some (λ c. is_it x (seated c)) w.server.cradles i Empty e in
+          let k : Cradled (i + 1) = (omega arith, omega (arith, found.0, sound.cradle_count)) in
+          let same : i + 1 - 1 ≡ i = omega arith in
+          let is : seated (cradle w.server (i + 1)) ≡ Some x =
+          ap (λ n. seated (get_or w.server.cradles n Empty)) same ∙ it_is x (seated (get_or w.server.cradles i Empty)) found.1 in
+          kept_with (set w.server.cradles (i + 1 - 1) (with_departure (cradle w.server (i + 1)))) w.book.arrivals (x ∷ w.book.departures)
+          (remove_agrees (cradle w.server) (cradle (left_at w.server (Some i))) w.book old.agrees x (i + 1) is
+          (λ d h s. sound.seats_apart d (i + 1) x h k s is)
+          (one_other w.server (i + 1) (with_departure (cradle w.server (i + 1))) sound.cradle_count k))
+
+      go : (a : Bool) (o : Option ℕ) → seat_of x w.server ≡ o → Kept (remove_leaves x o (cond (not a) (refused 1 []) (remove_seated w.server o)))
+      go false o e = old
+      go true None e = old
+      go true (Some i) e = seat i e (departs (cradle w.server (i + 1)))
+
+  drop_keeps : Kept (called w drop_notes)
+  drop_keeps = kept_with (map without_notes w.server.cradles) [] []
+      (drop_agrees (cradle w.server) (λ c. get_or (map without_notes w.server.cradles) (c - 1) Empty) w.book old.agrees
+      (λ d h. get_or-map without_notes w.server.cradles (d - 1) Empty))
+
+  card_keeps : (x : ℕ) (buffer : List ℕ) → Kept (called w (card x buffer))
+  card_keeps x buffer = go (is_refused w.server (card x buffer))
+    where
+      go : (r : Bool) → Kept (record { server = w.server; book = told w.book (card x buffer) r; files = w.files })
+      go true = old
+      go false = old
+
+-- an accepted plan has something noted
+noted_of : (s : State) (p : Publishing) → plan_verdict s p ≡ Ok tt → noted s ≡ true
+noted_of s p e = go (noted s) _ e
+  where
+    go : (b : Bool) (rest : Verdict (Unit {0})) → cond (not b) (refused 7 []) rest ≡ Ok tt → b ≡ true
+    go true rest h = refl
+    go false rest h = cc
+
+module _ (laws : StateLaws) (w : Site) (sound : Sound w.server) (old : Kept w) (p : Publishing) (given : Given (publish p)) where
+  abbrev s : State
+  s = w.server
+
+  abbrev b : Book
+  b = w.book
+
+  abbrev former : Keys
+  former = held s.nodes
+
+  abbrev present : Keys
+  present = held (published s p.material).nodes
+
+  module _ (ok : plan_verdict s p ≡ Ok tt) where
+    change : Change b.epoch (row s) (plan_of s p) p.material former present b.seats (next_epoch b).seats b.ended (next_epoch b).ended
+        (Link w.files) (Link (new_edition s p ∷ w.files))
+    change = record {
+      lawful = given.0 (row s) (length-map s.cradles code_of ∙ sound.cradle_count);
+      root = laws.noted_root s sound (noted_of s p ok);
+      renewal = subst (λ (e : ℕ). Renewal (e + 1) (row s) p.material former present) old.same_epoch (laws.renewal s p.material sound);
+      seats_are = seats_next (cradle s) b old.agrees (row s) (λ c k. laws.code_at_leaf s c sound k);
+      ended_are = ended_next (cradle s) b old.agrees (row s) (λ c k. laws.code_at_leaf s c sound k);
+      links_are = λ m n l. subst (λ (e : ℕ). Link w.files m n ⊎ OfPlan (e + 1) (plan_of s p) former present m n) old.same_epoch
+          (link_is laws s p given sound ok w.files m n l);
+      links_kept = link_more (new_edition s p) w.files;
+      links_new = λ q i.
+          subst (λ (e : ℕ). Link (new_edition s p ∷ w.files) (opener_name former present q.opener) (named q.content (e + 1))) old.same_epoch
+          (link_new laws s p given sound ok w.files q i);
+    }
+
+    epochs : (e : ℕ) → EpochOf (new_edition s p ∷ w.files) e ↔ ((1 ≤ e) × (e ≤ b.epoch + 1))
+    epochs e = (to, from)
+      where
+        to : EpochOf (new_edition s p ∷ w.files) e → (1 ≤ e) × (e ≤ b.epoch + 1)
+        to (x, (inl q, h)) = let now : s.epoch + 1 ≡ e = sym (ap (λ y. y.notice.epoch) q) ∙ h in (omega (arith, now), omega (arith, now, old.same_epoch))
+        to (x, (inr i, h)) = let r = (old.published_epochs e).0 (x, (i, h)) in (r.0, omega (arith, r.1))
+
+        from : (1 ≤ e) × (e ≤ b.epoch + 1) → EpochOf (new_edition s p ∷ w.files) e
+        from (low, high) = elim (cases_eq e (b.epoch + 1)) [
+          | inl q ↦ (new_edition s p, (inl refl, ap (λ n. n + 1) old.same_epoch ∙ sym q))
+          | inr other ↦ let r = (old.published_epochs e).1 (low, omega arith) in (r.0, (inr r.1.0, r.1.1))
+        ]
+
+    accepted : Kept (record { server = published s p.material; book = next_epoch b; files = new_edition s p ∷ w.files })
+    accepted = record {
+      same_epoch = ap (λ n. n + 1) old.same_epoch;
+      agrees = publish_agrees (cradle s) (cradle (published s p.material)) b old.agrees (λ d k. get_or-map carried_out s.cradles (d - 1) Empty);
+      steady = steady_next b.epoch (row s) (plan_of s p) p.material former present b.seats (next_epoch b).seats b.ended (next_epoch b).ended
+          (Link w.files) (Link (new_edition s p ∷ w.files)) old.steady change;
+      published_epochs = epochs;
+      all_readable = λ x i. elim i [ inl q ↦ rw q (readable laws s p given sound ok) | inr j ↦ old.all_readable x j ];
+    }
+
+  -- what a publishing leaves, by its verdict
+  abbrev publish_leaves : Verdict Published → Site
+  publish_leaves v = record {
+    server = if_done v (published s p.material) s;
+    book = told b (publish p) (is_err v);
+    files = edition p.wrap v (if_done v (written (file_of s p) ++ drop (size_of s p) p.file) p.file) ++ w.files;
+  }
+
+  publish_keeps : Kept (called w (publish p))
+  publish_keeps = accepted_or_refused s p (λ v. Kept (publish_leaves v)) accepted (λ f. old)
+
+-- at no number, also past the end
+none_made : (k n : ℕ) → (held (replicate k unmade) n).made ≡ 0
+none_made zero n = refl
+none_made (suc k) zero = refl
+none_made (suc k) (suc n) = none_made k n
+
+module _ (laws : StateLaws) where
+  step : (w : Site) (c : Call) → Given c → Sound w.server → Kept w → Kept (called w c)
+  step w (admit x c) given sound old = admit_keeps w sound old x c
+  step w (remove x) given sound old = remove_keeps w sound old x
+  step w drop_notes given sound old = drop_keeps w sound old
+  step w (publish p) given sound old = publish_keeps laws w sound old p given
+  step w (card x buffer) given sound old = card_keeps w sound old x buffer
+
+  start : Kept (run [])
+  start = record {
+    same_epoch = refl;
+    agrees = record { sit = λ t i. absurd i; come = λ a i. absurd i };
+    steady = record {
+      seats_are = λ t i. absurd i;
+      ended_are = λ t i. absurd i;
+      made_past = λ n. omega (arith, none_made 256 n);
+      holders_last = λ n o s i. elim i [ inl j ↦ absurd j.0 | inr j ↦ absurd j ];
+      links_right = λ m n l. absurd l.is_file;
+      path = λ t i. absurd i;
+      history = λ s i. elim i [ inl j ↦ absurd j.0 | inr j ↦ absurd j ];
+    };
+    published_epochs = λ e. ((λ x. absurd x.1.0), λ h. absurd (omega (arith, h.0, h.1)));
+    all_readable = λ x i. absurd i;
+  }
+
+  pub run_sound : (calls : List Call) → AllGiven calls → Sound (run calls).server
+  run_sound [] given = laws.new_sound
+  run_sound (c ∷ earlier) given = laws.after_sound (run earlier).server c given.0 (run_sound earlier given.1)
+
+  pub run_kept : (calls : List Call) → AllGiven calls → Kept (run calls)
+  run_kept [] given = start
+  run_kept (c ∷ earlier) given = step (run earlier) c given.0 (run_sound earlier given.1) (run_kept earlier given.1)

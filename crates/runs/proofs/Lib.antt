@@ -1,0 +1,9 @@
+pub mod Chains
+pub mod Steady
+pub mod Renewals
+pub mod SteadyNext
+pub mod Agreement
+pub mod Editions
+pub mod Kept
+pub mod EveryRun
+pub mod Servers

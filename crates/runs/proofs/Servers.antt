@@ -1,0 +1,23 @@
+-- A call keeps what every server keeps, and adds one to the calls that the server comes from.
+use Rattle.std.proofs.Common.{◌≡◌, [], ◌∷◌, refl, sym, ap, ◌∙◌, subst}
+use Rattle.std.proofs.Math.Logic.{∥∥₁_map}
+use Rattle.group.specs.declared.state.State.{State}
+use Rattle.group.specs.States.{new_state}
+use Rattle.group.specs.Calls.{Call, Given}
+use Rattle.group.specs.Steps.{after}
+use Rattle.group.specs.Sound.{Sound}
+use Rattle.group.proofs.EveryCall.{state_laws}
+use Rattle.runs.specs.Runs.{FromRun}
+
+pub new_sound : Sound new_state
+new_sound = state_laws.new_sound
+
+pub new_run : ∥ FromRun new_state ∥₁
+new_run = ∣ ([], (tt, refl)) ∣₁
+
+module _ (c : Call) (given : Given c) (s t : State) (is : t ≡ after s c) where
+  pub sound_after : Sound s → Sound t
+  sound_after sound = subst Sound (sym is) (state_laws.after_sound s c given sound)
+
+  pub run_after : ∥ FromRun s ∥₁ → ∥ FromRun t ∥₁
+  run_after from = ∥∥₁_map from (λ r. (c ∷ r.0, ((given, r.1.0), ap (λ u. after u c) r.1.1 ∙ sym is)))

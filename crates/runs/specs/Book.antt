@@ -1,0 +1,79 @@
+-- The site book: fed each call, and whether it was refused.
+use Rattle.std.specs.Prelude.{◌≡◌, ℕ, ◌+◌, ◌≤◌, Bool, true, false, not, ◌⊎◌, List, [], ◌∷◌, ◌++◌, map, filter, nat_eq}
+use Rattle.tree.specs.Tree.{some}
+use Rattle.tree.specs.Plans.{In}
+use Rattle.group.specs.Calls.{Call, admit, remove, drop_notes, publish, card}
+
+-- a scanner in its cradle, from its first epoch on
+pub record Seat : Type 0 where
+  pub serial : ℕ
+  pub cradle : ℕ
+  pub first : ℕ
+
+pub record Arrival : Type 0 where
+  pub serial : ℕ
+  pub cradle : ℕ
+
+-- a seat with its last epoch
+pub record Stay : Type 0 where
+  pub seat : Seat
+  pub last : ℕ
+
+-- the epoch, the seats, the notes and the ended stays; the newest of each stands first
+pub record Book : Type 0 where
+  pub epoch : ℕ
+  pub seats : List Seat
+  pub arrivals : List Arrival
+  pub departures : List ℕ
+  pub ended : List Stay
+
+abbrev pub new_book : Book
+new_book = record { epoch = 0; seats = []; arrivals = []; departures = []; ended = [] }
+
+-- its departure is noted
+abbrev pub departing : Book → Seat → Bool
+departing b t = some (λ x. nat_eq x t.serial) b.departures
+
+-- a noted arrival becomes a seat
+abbrev pub seat_from : ℕ → Arrival → Seat
+seat_from first a = record { serial = a.serial; cradle = a.cradle; first = first }
+
+abbrev pub stay_to : ℕ → Seat → Stay
+stay_to last t = record { seat = t; last = last }
+
+-- the notes are carried out and cleared: the seats of those who depart become ended stays, and each arrival a seat
+abbrev pub next_epoch : Book → Book
+next_epoch b = record {
+  epoch = b.epoch + 1;
+  seats = map (seat_from (b.epoch + 1)) b.arrivals ++ filter (λ t. not (departing b t)) b.seats;
+  arrivals = [];
+  departures = [];
+  ended = map (stay_to b.epoch) (filter (departing b) b.seats) ++ b.ended;
+}
+
+-- what an accepted call writes into the book
+abbrev pub noted_in : Book → Call → Book
+noted_in b (admit x c) = record b { arrivals = record { serial = x; cradle = c } ∷ b.arrivals }
+noted_in b (remove x) = record b { departures = x ∷ b.departures }
+noted_in b drop_notes = record b { arrivals = []; departures = [] }
+noted_in b (publish p) = next_epoch b
+noted_in b (card x buffer) = b
+
+-- the book after a call of which it is told whether it was refused
+abbrev pub told : Book → Call → Bool → Book
+told b c true = b
+told b c false = noted_in b c
+
+-- a stay is an ended one, or a seat, whose last epoch is the book's
+abbrev pub IsStay : Book → Stay → Type 0
+IsStay b s = (In s.seat b.seats × (s.last ≡ b.epoch)) ⊎ In s b.ended
+
+abbrev pub Covers : Stay → ℕ → Type 0
+Covers s e = (s.seat.first ≤ e) × (e ≤ s.last)
+
+-- a scanner is a member in an epoch that one of its stays covers
+pub record Member (b : Book) (serial e : ℕ) : Type 0 where
+  pub stay : Stay
+  pub is_stay : IsStay b stay
+  pub is_its : stay.seat.serial ≡ serial
+  pub covers : Covers stay e

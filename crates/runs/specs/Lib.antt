@@ -1,0 +1,4 @@
+pub mod Book
+pub mod Runs
+pub mod Reach
+pub mod Law
