@@ -20,6 +20,7 @@ one_noted = admitted new_state 1001 1
 abbrev pub last_noted : List ℕ → State
 last_noted material = removed (published one_noted material) 1001
 
+-- what is told, drawn and written in these changes
 pub record ServerExamples : Type 0 where
   -- the last cradle is 128, the last serial 9,999
   pub last_cradle : admit_verdict new_state 9999 128 ≡ Ok tt

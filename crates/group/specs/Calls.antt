@@ -21,6 +21,7 @@ pub record KeyWrap : Type 0 where
   pub seals : Sealing
   pub opens : Opening
 
+-- such a wrap, by its parts
 abbrev pub key_wrap : ℕ → ℕ → Sealing → Opening → KeyWrap
 key_wrap kind length seals opens = record { kind = kind; length = length; seals = seals; opens = opens }
 
@@ -33,10 +34,12 @@ pub record Publishing : Type 0 where
   pub file : List ℕ
   pub work : List ℕ
 
+-- such a publishing, by its parts
 abbrev pub publishing : Strategy → KeyWrap → List ℕ → List Pair → List ℕ → List ℕ → Publishing
 publishing strategy wrap material pairs file work =
     record { strategy = strategy; wrap = wrap; material = material; pairs = pairs; file = file; work = work }
 
+-- a call, with what it is given
 pub data Call : Type 0 where
   -- a serial, a cradle
   admit : ℕ → ℕ → Call

@@ -27,6 +27,7 @@ pub record Renewal (epoch : ℕ) (row : List Code) (material : List ℕ) (former
   -- the new keys are drawn in order, 32 bytes each
   pub drawn_in_order : (i : ℕ) → i < length (receivers row) → (present (slice_index_or (receivers row) i 0)).key ≡ part 32 (32 * i) material
 
+-- what holds of all states and calls
 pub record StateLaws : Type 0 where
   pub new_sound : Sound new_state
   -- every call, accepted or refused, keeps a server sound

@@ -11,6 +11,7 @@ use Rattle.group.specs.States.{cradle, leaf_of}
 abbrev pub Cradled : ℕ → Type 0
 Cradled c = (1 ≤ c) × (c ≤ 128)
 
+-- such a state
 pub record Sound (s : State) : Type 0 where
   pub cradle_count : length s.cradles ≡ 128
   pub node_count : length s.nodes ≡ 256

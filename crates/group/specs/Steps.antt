@@ -11,6 +11,7 @@ use Rattle.group.specs.Notes.{admit_verdict, remove_verdict}
 use Rattle.group.specs.Cards.{card_verdict}
 use Rattle.group.specs.Publishings.{publish_verdict}
 
+-- with other cradles
 abbrev pub with_cradles : State → List Cradle → State
 with_cradles s cradles = record s { cradles = cradles }
 
@@ -27,6 +28,7 @@ abbrev pub left_at : State → Option ℕ → State
 left_at s None = s
 left_at s (Some i) = with_cradle s (i + 1) (with_departure (cradle s (i + 1)))
 
+-- the departure of the scanner is noted, where it is in a cradle
 abbrev pub removed : State → ℕ → State
 removed s x = left_at s (seat_of x s)
 

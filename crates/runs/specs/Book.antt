@@ -10,6 +10,7 @@ pub record Seat : Type 0 where
   pub cradle : ℕ
   pub first : ℕ
 
+-- a noted arrival
 pub record Arrival : Type 0 where
   pub serial : ℕ
   pub cradle : ℕ
@@ -27,6 +28,7 @@ pub record Book : Type 0 where
   pub departures : List ℕ
   pub ended : List Stay
 
+-- at first there is nothing in it
 abbrev pub new_book : Book
 new_book = record { epoch = 0; seats = []; arrivals = []; departures = []; ended = [] }
 
@@ -38,6 +40,7 @@ departing b t = some (λ x. nat_eq x t.serial) b.departures
 abbrev pub seat_from : ℕ → Arrival → Seat
 seat_from first a = record { serial = a.serial; cradle = a.cradle; first = first }
 
+-- a seat that ends becomes a stay
 abbrev pub stay_to : ℕ → Seat → Stay
 stay_to last t = record { seat = t; last = last }
 
@@ -68,6 +71,7 @@ told b c false = noted_in b c
 abbrev pub IsStay : Book → Stay → Type 0
 IsStay b s = (In s.seat b.seats × (s.last ≡ b.epoch)) ⊎ In s b.ended
 
+-- from its first epoch to its last
 abbrev pub Covers : Stay → ℕ → Type 0
 Covers s e = (s.seat.first ≤ e) × (e ≤ s.last)
 

@@ -15,6 +15,7 @@ pub record Edition : Type 0 where
   pub wrap : KeyWrap
   pub bytes : List ℕ
 
+-- it is published if the publishing was not refused
 abbrev pub edition : KeyWrap → Verdict Published → List ℕ → List Edition
 edition wrap (Ok notice) buffer = record { notice = notice; wrap = wrap; bytes = take notice.bytes buffer } ∷ []
 edition wrap (Err refusal) buffer = []
@@ -33,9 +34,11 @@ pub record Site : Type 0 where
   pub book : Book
   pub files : List Edition
 
+-- a new server, an empty book, nothing published
 abbrev pub new_site : Site
 new_site = record { server = new_state; book = new_book; files = [] }
 
+-- the site after a call: the book is told of it, and whether it was refused
 abbrev pub called : Site → Call → Site
 called w c = record { server = after w.server c; book = told w.book c (is_refused w.server c); files = editions w.server c ++ w.files }
 
@@ -44,6 +47,7 @@ abbrev pub run : List Call → Site
 run [] = new_site
 run (c ∷ earlier) = called (run earlier) c
 
+-- each publishing was given a lawful strategy, a lawful wrap and bytes
 abbrev pub AllGiven : List Call → Type 0
 AllGiven [] = Unit {0}
 AllGiven (c ∷ earlier) = Given c × AllGiven earlier

@@ -6,11 +6,13 @@ use std::io;
 use tree::{Opener, Pair, Strategy};
 use wrap::{WORKING_BYTES, Wrap};
 
-// The most pairs that a plan has, and the most bytes that a file has with the wraps of this program.
+// The most pairs that a plan has.
 const PAIRS: usize = 896;
 
+// The most bytes that a file has with the wraps of this program.
 const FILE_BYTES: usize = 48_521;
 
+/// A site at work.
 #[derive(Drop)]
 pub(crate) struct Site<'a> {
     server: Server,
