@@ -1,4 +1,5 @@
 pub mod Rows
+pub mod Positions
 pub mod Distinct
 pub mod Renewals
 pub mod Publishings

@@ -10,7 +10,7 @@ use Rattle.keys.specs.Names.{unmade, held}
 use Rattle.tree.specs.declared.types.Code.{Code}
 use Rattle.tree.specs.declared.types.Code.TheVariants.{Empty, Stays, Arrives, Departs, Swaps}
 use Rattle.tree.specs.Tree.{Leaf, leaves, inners, falling}
-use Rattle.tree.specs.Rows.{code, changed, changed_nodes}
+use Rattle.tree.specs.Rows.{code, changed, changed_nodes, seats, moves}
 use Rattle.tree.specs.Plans.{In}
 use Rattle.tree.proofs.Members.{in_append, in_left, in_right, in_kept, kept_in, in_counting, counting_in}
 use Rattle.tree.proofs.Standing.{changed_inner, changed_in, in_changed}
@@ -114,6 +114,14 @@ joins_empties Stays j e = false≢true j
 joins_empties Arrives j e = false≢true e
 joins_empties Departs j e = false≢true j
 joins_empties Swaps j e = false≢true e
+
+-- who arrives is there after the change, and moves
+pub joins_is : (k : Code) → joins k ≡ true → (seats k ≡ true) × (moves k ≡ true)
+joins_is Empty j = absurd (false≢true j)
+joins_is Stays j = absurd (false≢true j)
+joins_is Arrives j = (refl, refl)
+joins_is Departs j = absurd (false≢true j)
+joins_is Swaps j = (refl, refl)
 
 module _ (row : List Code) where
   arrival_in : (u : ℕ) → Leaf u → joins (code row u) ≡ true → In u (arrival_leaves row)

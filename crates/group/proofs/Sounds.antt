@@ -1,9 +1,7 @@
 -- A new server is sound, and every call keeps a server sound.
-use Rattle.std.proofs.Common.{◌≡◌, ℕ, zero, suc, ◌+◌, ◌-◌, ◌<◌, ◌≤◌, Bool, true, false, cond, ltb, List, map, length, get_or, set, replicate, Some, None, Option, sym, refl, ap, ◌∙◌, subst, inl, inr, arith}
+use Rattle.std.proofs.Common.{◌≡◌, ℕ, zero, suc, ◌+◌, ◌-◌, ◌≤◌, List, map, length, get_or, set, replicate, Some, None, Option, sym, refl, ap, ◌∙◌, subst, inl, inr, arith}
 use Rattle.std.proofs.Math.ListN.{get_or-map}
-use Rattle.std.specs.List.{position, position_or_len}
-use Rattle.std.proofs.lemmas.Bool.{cases_eq, both_ways, eq-eqb, ltb-false}
-use Rattle.std.proofs.lemmas.List.Sums.{fails_before_first}
+use Rattle.std.proofs.lemmas.Bool.{cases_eq, both_ways, eq-eqb}
 use Rattle.std.proofs.lemmas.List.{length-map, length-set, length-replicate, get_or-set_same, get_or-set_other}
 use Rattle.std.proofs.lemmas.Option.{none-some}
 use Rattle.byte_strings.specs.Strings.{Sized}
@@ -20,6 +18,7 @@ use Rattle.group.specs.Notes.{admit_verdict, remove_verdict}
 use Rattle.group.specs.Publishings.{publish_verdict}
 use Rattle.group.specs.Steps.{with_cradles, with_cradle, admitted, left_at, removed, dropped, published, after}
 use Rattle.group.specs.Sound.{Sound, Cradled}
+use Rattle.group.proofs.Positions.{none_passes}
 use Rattle.group.proofs.Renewals.{unmade_sized}
 use Rattle.group.proofs.Publishings.{publish_sound}
 use Rattle.group.proofs.Verdicts.{left_either, admit_passed, plan_passed, publish_passed}
@@ -121,17 +120,9 @@ left_sound s (Some i) sound = one_sound s sound (i + 1) it (omega arith) (depart
 
 -- An arrival that is noted.
 
--- none passes where none is found
-none_passes : (test : Cradle → Bool) (ks : List Cradle) (i : ℕ) → position test ks ≡ None → i < length ks → test (get_or ks i Empty) ≡ false
-none_passes test ks i e l = go (ltb (position_or_len test ks) (length ks)) refl e
-  where
-    go : (b : Bool) → ltb (position_or_len test ks) (length ks) ≡ b → cond b (Some (position_or_len test ks)) None ≡ None → test (get_or ks i Empty) ≡ false
-    go true h n = absurd (none-some (position_or_len test ks) (sym n))
-    go false h n = fails_before_first test ks i Empty (omega (arith, ltb-false (position_or_len test ks) (length ks) h))
-
 not_held : (s : State) (x c : ℕ) → Sound s → Cradled c → held_by x s ≡ None → holder (cradle s c) ≡ Some x → ⊥
 not_held s x c sound h e q =
-    both_ways (is_it x (holder (cradle s c))) (none_passes (λ k. is_it x (holder k)) s.cradles (c - 1) e (omega (arith, sound.cradle_count)))
+    both_ways (is_it x (holder (cradle s c))) (none_passes (λ k. is_it x (holder k)) s.cradles (c - 1) Empty e (omega (arith, sound.cradle_count)))
     (ap (is_it x) q ∙ eq-eqb x x refl)
 
 admitted_sound : (s : State) (x c : ℕ) → Sound s → 1 ≤ c → held_by x s ≡ None → holder (cradle s c) ≡ None → Sound (admitted s x c)

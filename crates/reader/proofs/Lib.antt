@@ -1,1 +1,1 @@
-mod Laid
+pub mod Laid

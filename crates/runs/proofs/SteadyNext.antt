@@ -17,7 +17,7 @@ use Rattle.rekey.specs.Sealing.{opener_name}
 use Rattle.group.specs.Draws.{joins, empties}
 use Rattle.group.specs.Laws.{Renewal}
 use Rattle.group.specs.Sound.{Cradled}
-use Rattle.group.proofs.Renewals.{joins_empties}
+use Rattle.group.proofs.Renewals.{joins_is, joins_empties}
 use Rattle.runs.specs.Book.{Seat, Stay, Covers}
 use Rattle.runs.proofs.Chains.{Followed, given, opened, followed_more}
 use Rattle.runs.proofs.Renewals.{Above, renewed_node, renewed_leaf, emptied_leaf, untouched, above, made_past}
@@ -59,20 +59,6 @@ departs_moves Stays d m = absurd (true≢false (sym d))
 departs_moves Arrives d m = absurd (true≢false (sym d))
 departs_moves Departs d m = absurd (true≢false m)
 departs_moves Swaps d m = absurd (true≢false m)
-
-joins_moves : (c : Code) → joins c ≡ true → moves c ≡ false → ⊥
-joins_moves Empty j m = absurd (true≢false (sym j))
-joins_moves Stays j m = absurd (true≢false (sym j))
-joins_moves Arrives j m = absurd (true≢false m)
-joins_moves Departs j m = absurd (true≢false (sym j))
-joins_moves Swaps j m = absurd (true≢false m)
-
-joins_seats : (c : Code) → joins c ≡ true → seats_code c ≡ true
-joins_seats Empty j = absurd (true≢false (sym j))
-joins_seats Stays j = refl
-joins_seats Arrives j = refl
-joins_seats Departs j = absurd (true≢false (sym j))
-joins_seats Swaps j = refl
 
 joins_stays : (c : Code) → joins c ≡ true → c ≡ Stays → ⊥
 joins_stays c j e = true≢false (sym j ∙ ap joins e)
@@ -220,7 +206,7 @@ module _ (epoch : ℕ) (row : List Code) (plan : List Pair) (material : List ℕ
     where
       sits : NewSeat epoch seats row t → seats_code (code row (leaf_at t)) ≡ true
       sits (stays_on i e) = ap seats_code e
-      sits (arrived c first j) = joins_seats (code row (leaf_at t)) j
+      sits (arrived c first j) = (joins_is (code row (leaf_at t)) j).0
 
   up : (t : Seat) (n : ℕ) → NewSeat epoch seats row t → 0 < n → Within (leaf_at t) n →
       ((m : ℕ) → n < m → Within (leaf_at t) m → Reaches t m) → Reaches t n
@@ -246,7 +232,7 @@ module _ (epoch : ℕ) (row : List Code) (plan : List Pair) (material : List ℕ
 
       not_moved : NewSeat epoch seats row t → (present n).made ≡ (former n).made → moves (code row (leaf_at t)) ≡ false → Reaches t n
       not_moved (stays_on i e) q h = rw q (as_before t (old.path t i n o w))
-      not_moved (arrived c first j) q h = absurd (joins_moves (code row (leaf_at t)) j h)
+      not_moved (arrived c first j) q h = absurd (true≢false (sym (joins_is (code row (leaf_at t)) j).1 ∙ h))
 
   -- by falling numbers, from the leaf on
   up_from : (t : Seat) → NewSeat epoch seats row t → (k n : ℕ) → 256 ≤ n + k → 0 < n → Within (leaf_at t) n → Reaches t n
