@@ -1,0 +1,17 @@
+-- What a player finds and reads, and what its refusals keep.
+use Rattle.scanner.specs.Laws.{PlayerLaws}
+use Rattle.scanner.proofs.Shows.{path_shows}
+use Rattle.scanner.proofs.Searches.{found_opens, found_first, none_opens}
+use Rattle.scanner.proofs.Refusals.{refused_keeps}
+use Rattle.scanner.proofs.Readings.{staying_reads, arriving_reads}
+
+pub player_laws : PlayerLaws
+player_laws = record {
+  found_opens = found_opens;
+  found_first = found_first;
+  none_opens = none_opens;
+  refused_keeps = refused_keeps;
+  staying_reads = staying_reads;
+  arriving_reads = arriving_reads;
+  shows_root = path_shows;
+}
