@@ -1,0 +1,3 @@
+mod Finds
+mod Taken
+mod Climbing

@@ -1,0 +1,9 @@
+//! The way up through a rekey file.
+#![tactic(auto)]
+
+mod climb;
+mod fault;
+mod search;
+
+pub use climb::follow;
+pub use fault::{DatedFault, ReadFault};
