@@ -47,7 +47,7 @@ pub record OneOther (before after : ℕ → Cradle) (c : ℕ) (it : Cradle) : Ty
   pub elsewhere : (d : ℕ) → Cradled d → (d ≡ c → ⊥) → after d ≡ before d
 
 -- a seat of the next epoch is an arrival's, or one that does not depart
-seat_next : (b : Book) (t : Seat) → In t (next_epoch b).seats →
+pub seat_next : (b : Book) (t : Seat) → In t (next_epoch b).seats →
     ((a : Arrival) × (In a b.arrivals × (t ≡ seat_from (b.epoch + 1) a))) ⊎ (In t b.seats × (departing b t ≡ false))
 seat_next b t i = elim (in_append (map (seat_from (b.epoch + 1)) b.arrivals) (filter (λ u. not (departing b u)) b.seats) t i) [
   | inl j ↦ inl (in_map (seat_from (b.epoch + 1)) b.arrivals t j)

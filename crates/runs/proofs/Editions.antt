@@ -18,6 +18,7 @@ use Rattle.group.specs.declared.state.State.{State}
 use Rattle.group.specs.declared.state.Published.{Published}
 use Rattle.group.specs.States.{row}
 use Rattle.group.specs.Calls.{Publishing, Given, publish}
+use Rattle.group.specs.Draws.{drawn}
 use Rattle.group.specs.Publishings.{plan_of, file_of, size_of, plan_verdict, told_of, and_then, publish_verdict}
 use Rattle.group.specs.Steps.{published}
 use Rattle.group.specs.Sound.{Sound}
@@ -50,7 +51,7 @@ link_more x files m n l = record {
 
 -- what an accepted publishing publishes
 abbrev pub new_edition : State → Publishing → Edition
-new_edition s p = record { notice = told_of s p; wrap = p.wrap; bytes = take (size_of s p) (written (file_of s p) ++ drop (size_of s p) p.file) }
+new_edition s p = record { notice = told_of s p; wrap = p.wrap; drawn = take (drawn (row s)) p.material; bytes = take (size_of s p) (written (file_of s p) ++ drop (size_of s p) p.file) }
 
 module _ (laws : StateLaws) (s : State) (p : Publishing) (given : Given (publish p)) (sound : Sound s) (ok : plan_verdict s p ≡ Ok tt) where
   abbrev former : Keys
@@ -68,7 +69,7 @@ module _ (laws : StateLaws) (s : State) (p : Publishing) (given : Given (publish
   size : length (written (file_of s p)) ≡ size_of s p
   size = returns.size ∙ ap (λ n. file_size p.wrap.length (length (changed_nodes (row s))) n) wrap_count
 
-  bytes_are : (new_edition s p).bytes ≡ written (file_of s p)
+  pub bytes_are : (new_edition s p).bytes ≡ written (file_of s p)
   bytes_are = take_at (written (file_of s p)) (drop (size_of s p) p.file) (size_of s p) size
 
   pub reads_back : read_file (new_edition s p) ≡ file_of s p

@@ -1,18 +1,28 @@
 -- After any calls, group keys are reached exactly by members.
-use Rattle.std.proofs.Common.{ℕ, ◌≤◌, ◌↔◌, List, refl, sym, ap, subst, inl, inr, arith}
+use Rattle.std.proofs.Common.{ℕ, ◌≤◌, ◌↔◌, List, refl, sym, ap, subst, inl, inr, arith, length, ◌≡◌, Ok, ◌++◌, drop, ◌∙◌, ◌∷◌}
 use Rattle.tree.specs.Tree.{Within}
 use Rattle.tree.specs.Plans.{In}
 use Rattle.keys.specs.declared.KeyName.{KeyName}
-use Rattle.keys.specs.Names.{named}
+use Rattle.keys.specs.Names.{named, held}
 use Rattle.group.specs.Sound.{Sound}
-use Rattle.group.specs.Laws.{StateLaws}
+use Rattle.group.proofs.EveryCall.{state_laws}
+use Rattle.scanner.proofs.EveryPlayer.{player_laws}
+use Rattle.tree.proofs.Members.{in_map, falling_in}
 use Rattle.runs.specs.Book.{Book, Stay, IsStay, Covers}
+use Rattle.group.specs.Calls.{Call}
 use Rattle.runs.specs.Runs.{Site, run}
 use Rattle.runs.specs.Reach.{Link, Reached}
 use Rattle.runs.specs.Law.{PublishedEpoch, LeafKeyOf, SomeMember, GroupKeys, EveryRun}
 use Rattle.runs.proofs.Chains.{Followed, given, opened, followed_more, followed, reached}
 use Rattle.runs.proofs.Steady.{leaf_at}
-use Rattle.runs.proofs.Kept.{Kept, run_sound, run_kept}
+use Rattle.byte_strings.specs.Numbers.{big2, big4}
+use Rattle.group.specs.Cards.{card_verdict, card_leaves}
+use Rattle.runs.specs.Players.{Enrols, Course, from_to, card_of}
+use Rattle.runs.specs.Law.{MembersHold}
+use Rattle.runs.specs.Book.{Seat}
+use Rattle.runs.proofs.Cards.{card_accepted, card_written}
+use Rattle.runs.proofs.Playing.{Playing, playing}
+use Rattle.runs.proofs.Kept.{Kept, run_sound, run_kept, epochs_past}
 
 -- one of the scanners has a stay beneath the node that covers the epoch
 record Holds (b : Book) (serials : List ℕ) (name : KeyName) : Type 0 where
@@ -53,21 +63,53 @@ module _ (w : Site) (kept : Kept w) (serials : List ℕ) where
       (λ a b l. l)
       (kept.steady.history m.stay m.is_stay e m.covers))
 
-published_epochs : (w : Site) → Kept w → (e : ℕ) → PublishedEpoch w e ↔ ((1 ≤ e) × (e ≤ w.book.epoch))
-published_epochs w kept e = (
-  (λ p. (kept.published_epochs e).0 (p.file, (p.is_file, p.is_epoch))),
-  λ h. let x = (kept.published_epochs e).1 h in record { file = x.0; is_file = x.1.0; is_epoch = x.1.1 },
-)
+module _ (calls : List Call) (sound : Sound (run calls).server) (kept : Kept (run calls)) (plays : Playing calls) where
+  abbrev w : Site
+  w = run calls
 
-group_keys : (w : Site) → Sound w.server → Kept w → GroupKeys w
-group_keys w sound kept = record {
-  reached_by_members = λ serials e. (only_members w kept serials e, all_members w kept serials e);
-  published = published_epochs w kept;
-  same_epoch = kept.same_epoch;
-  readable = kept.all_readable;
-  seats = λ t i. ((kept.agrees.sit t i).sits, (kept.steady.seats_are t i).since);
-  sound = sound;
-}
+  published_epochs : (e : ℕ) → PublishedEpoch w e ↔ ((1 ≤ e) × (e ≤ w.book.epoch))
+  published_epochs e = (to, from)
+    where
+      to : PublishedEpoch w e → (1 ≤ e) × (e ≤ w.book.epoch)
+      to p = subst (λ (n : ℕ). (1 ≤ n) × (n ≤ w.book.epoch)) p.is_epoch (epochs_past w.files w.book.epoch kept.in_order p.file p.is_file)
 
-pub every_run : StateLaws → EveryRun
-every_run laws calls lawful = group_keys (run calls) (run_sound laws calls lawful) (run_kept laws calls lawful)
+      from : (1 ≤ e) × (e ≤ w.book.epoch) → PublishedEpoch w e
+      from (low, high) =
+          let r = in_map (λ x. x.notice.epoch) w.files e (subst (λ (l : List ℕ). In e l) (sym kept.in_order) (falling_in w.book.epoch e low high)) in
+          record { file = r.0; is_file = r.1.0; is_epoch = sym r.1.1 }
+
+  members_hold : MembersHold calls
+  members_hold stay e is_stay covers card handed_out =
+      let p = plays.plays stay is_stay in
+      let one = sym (p.cards_are card handed_out) in (
+        subst (Enrols stay.seat) one p.enrols,
+        λ all q ring c. p.holds e covers all q ring (subst (λ (l : List ℕ). Course l (from_to stay.seat.first e w.files) all q ring) (sym one) c),
+      )
+
+  cards : (t : Seat) → In t w.book.seats → (buffer : List ℕ) → 39 ≤ length buffer →
+      (card_verdict w.server t.serial buffer ≡ Ok tt) × (card_leaves w.server t.serial buffer ≡ card_of t (held w.server.nodes (leaf_at t)).key ++ drop 39 buffer)
+  cards t i buffer room =
+      let sits = kept.agrees.sit t i in
+      let serial = kept.serials.of_seats t i in (
+        card_accepted w.server sound t.cradle t.serial sits.cradled sits.sits buffer serial room,
+        card_written w.server sound t.cradle t.serial sits.cradled sits.sits buffer serial room
+            ∙ ap (λ n. (big2 t.serial ++ (leaf_at t ∷ (big4 n ++ (held w.server.nodes (leaf_at t)).key))) ++ drop 39 buffer) (kept.steady.seats_are t i).since,
+      )
+
+  group_keys : GroupKeys calls
+  group_keys = record {
+    reached_by_members = λ serials e. (only_members w kept serials e, all_members w kept serials e);
+    members_hold = members_hold;
+    published = published_epochs;
+    in_order = kept.in_order;
+    same_epoch = kept.same_epoch;
+    newest = kept.newest;
+    readable = kept.all_readable;
+    seats = λ t i. ((kept.agrees.sit t i).sits, (kept.steady.seats_are t i).since);
+    cards = cards;
+    sound = sound;
+  }
+
+pub every_run : EveryRun
+every_run calls lawful =
+    group_keys calls (run_sound state_laws calls lawful) (run_kept state_laws calls lawful) (playing state_laws player_laws calls lawful)

@@ -1,7 +1,7 @@
 -- What every run keeps: the book agrees with the server, and what holds of seats, keys and links.
-use Rattle.std.proofs.Common.{◌≡◌, ℕ, zero, suc, ◌+◌, ◌-◌, ◌≤◌, Bool, true, false, cond, not, ◌↔◌, ◌⊎◌, List, [], ◌∷◌, ◌++◌, map, length, drop, get_or, set, replicate, Some, None, Ok, Option, is_err, leb, refl, sym, ap, ◌∙◌, subst, inl, inr, arith, get_or-set_same, get_or-set_other}
+use Rattle.std.proofs.Common.{◌≡◌, ℕ, zero, suc, ◌+◌, ◌-◌, ◌≤◌, Bool, true, false, cond, not, ◌⊎◌, List, [], ◌∷◌, ◌++◌, map, length, drop, get_or, set, replicate, Some, None, Ok, Option, is_err, leb, refl, sym, ap, ◌∙◌, subst, inl, inr, arith, get_or-set_same, get_or-set_other, ap₂}
 use Rattle.std.proofs.Math.ListN.{get_or-map}
-use Rattle.std.proofs.lemmas.Bool.{and_parts, eqb-true, leb-true, cases_eq, true≢false}
+use Rattle.std.proofs.lemmas.Bool.{and_parts, eqb-true, leb-true, true≢false}
 use Rattle.std.proofs.lemmas.List.{length-map}
 use Rattle.std.proofs.lemmas.List.Quantifiers.{position-Some}
 use Rattle.refusal.specs.Refusals.{Verdict, refused, if_done}
@@ -21,25 +21,52 @@ use Rattle.group.specs.Publishings.{plan_of, file_of, size_of, plan_verdict}
 use Rattle.group.specs.Steps.{with_cradle, admitted, left_at, published, is_refused}
 use Rattle.group.specs.Sound.{Cradled, Sound}
 use Rattle.group.specs.Laws.{Renewal, StateLaws}
-use Rattle.runs.specs.Book.{Arrival, Book, next_epoch, told}
-use Rattle.runs.specs.Runs.{Edition, edition, Site, called, run, AllGiven}
+use Rattle.group.proofs.Verdicts.{plan_passed}
+use Rattle.tree.specs.Tree.{falling}
+use Rattle.tree.proofs.Members.{map_in}
+use Rattle.runs.proofs.Falling.{in_falling, falling_next}
+use Rattle.runs.specs.Book.{Seat, Arrival, Book, next_epoch, told}
+use Rattle.runs.specs.Runs.{Edition, group_key, edition, Site, called, run, AllGiven}
 use Rattle.runs.specs.Reach.{Link}
 use Rattle.runs.specs.Law.{Readable}
 use Rattle.runs.proofs.Steady.{Steady}
 use Rattle.runs.proofs.SteadyNext.{Change, OfPlan, steady_next}
-use Rattle.runs.proofs.Agreement.{Agrees, OneOther, admit_agrees, remove_agrees, drop_agrees, publish_agrees, seats_next, ended_next}
+use Rattle.runs.proofs.RootKeys.{root_key}
+use Rattle.runs.proofs.Agreement.{seat_next, Agrees, OneOther, admit_agrees, remove_agrees, drop_agrees, publish_agrees, seats_next, ended_next}
 use Rattle.runs.proofs.Editions.{accepted_or_refused, link_more, new_edition, readable, link_new, link_is}
 
--- the epoch of one of the files
-abbrev pub EpochOf : List Edition → ℕ → Type 0
-EpochOf files e = (x : Edition) × (In x files × (x.notice.epoch ≡ e))
+-- the serials of a book are serials
+pub record Serials (b : Book) : Type 0 where
+  pub of_seats : (t : Seat) → In t b.seats → is_serial t.serial ≡ true
+  pub of_arrivals : (a : Arrival) → In a b.arrivals → is_serial a.serial ≡ true
 
 pub record Kept (w : Site) : Type 0 where
   pub same_epoch : w.server.epoch ≡ w.book.epoch
   pub agrees : Agrees (cradle w.server) w.book
+  pub serials : Serials w.book
   pub steady : Steady w.book.epoch w.book.seats w.book.ended (λ n. (held w.server.nodes n).made) (Link w.files)
-  pub published_epochs : (e : ℕ) → EpochOf w.files e ↔ ((1 ≤ e) × (e ≤ w.book.epoch))
+  pub in_order : map (λ x. x.notice.epoch) w.files ≡ falling w.book.epoch
+  pub newest : (x : Edition) → In x w.files → x.notice.epoch ≡ w.server.epoch → group_key x ≡ (held w.server.nodes 1).key
   pub all_readable : (x : Edition) → In x w.files → Readable x
+
+-- published epochs are those up to the last
+pub epochs_past : (files : List Edition) (e : ℕ) → map (λ x. x.notice.epoch) files ≡ falling e → (x : Edition) → In x files → (1 ≤ x.notice.epoch) × (x.notice.epoch ≤ e)
+epochs_past files e order x i = in_falling e x.notice.epoch (subst (λ (l : List ℕ). In x.notice.epoch l) order (map_in (λ y. y.notice.epoch) files x i))
+
+-- What admitting, removing and publishing leave, by their verdicts.
+
+abbrev pub admit_leaves : Site → ℕ → ℕ → Verdict (Unit {0}) → Site
+admit_leaves w x c v = record { server = if_done v (admitted w.server x c) w.server; book = told w.book (admit x c) (is_err v); files = w.files }
+
+abbrev pub remove_leaves : Site → ℕ → Option ℕ → Verdict (Unit {0}) → Site
+remove_leaves w x o v = record { server = if_done v (left_at w.server o) w.server; book = told w.book (remove x) (is_err v); files = w.files }
+
+abbrev pub publish_leaves : Site → Publishing → Verdict Published → Site
+publish_leaves w p v = record {
+  server = if_done v (published w.server p.material) w.server;
+  book = told w.book (publish p) (is_err v);
+  files = edition p.wrap p.material v (if_done v (written (file_of w.server p) ++ drop (size_of w.server p) p.file) p.file) ++ w.files;
+}
 
 -- only that cradle is another
 one_other : (s : State) (c : ℕ) (it : Cradle) → length s.cradles ≡ 128 → Cradled c → OneOther (cradle s) (cradle (with_cradle s c it)) c it
@@ -49,50 +76,47 @@ one_other s c it n k = record {
 }
 
 -- whose test it passes
-it_is : (x : ℕ) (o : Option ℕ) → is_it x o ≡ true → o ≡ Some x
+pub it_is : (x : ℕ) (o : Option ℕ) → is_it x o ≡ true → o ≡ Some x
 it_is x None e = absurd (true≢false (sym e))
 it_is x (Some y) e = ap Some (eqb-true y x e)
 
 module _ (w : Site) (sound : Sound w.server) (old : Kept w) where
   kept_with : (cradles : List Cradle) (arrivals : List Arrival) (departures : List ℕ) →
+      ((a : Arrival) → In a arrivals → is_serial a.serial ≡ true) →
       Agrees (λ c. get_or cradles (c - 1) Empty) (record w.book { arrivals = arrivals; departures = departures }) →
       Kept (record { server = record w.server { cradles = cradles }; book = record w.book { arrivals = arrivals; departures = departures }; files = w.files })
-  kept_with cradles arrivals departures a = record {
+  kept_with cradles arrivals departures serials a = record {
     same_epoch = old.same_epoch;
     agrees = a;
+    serials = record { of_seats = old.serials.of_seats; of_arrivals = serials };
     steady = old.steady;
-    published_epochs = old.published_epochs;
+    in_order = old.in_order;
+    newest = old.newest;
     all_readable = old.all_readable;
   }
 
-  -- what an admitting leaves, by its verdict
-  abbrev admit_leaves : ℕ → ℕ → Verdict (Unit {0}) → Site
-  admit_leaves x c v = record { server = if_done v (admitted w.server x c) w.server; book = told w.book (admit x c) (is_err v); files = w.files }
-
   admit_keeps : (x c : ℕ) → Kept (called w (admit x c))
-  admit_keeps x c = go (is_serial x) (is_cradle c) (held_by x w.server) (holder (cradle w.server c)) refl refl
+  admit_keeps x c = go (is_serial x) (is_cradle c) (held_by x w.server) (holder (cradle w.server c)) refl refl refl
     where
-      go : (a b : Bool) (h o : Option ℕ) → is_cradle c ≡ b → holder (cradle w.server c) ≡ o →
-          Kept (admit_leaves x c (cond (not a) (refused 1 []) (cond (not b) (refused 2 []) (admit_free h o))))
-      go false b h o q e = old
-      go true false h o q e = old
-      go true true (Some i) o q e = old
-      go true true None (Some y) q e = old
-      go true true None None q e =
+      go : (a b : Bool) (h o : Option ℕ) → is_serial x ≡ a → is_cradle c ≡ b → holder (cradle w.server c) ≡ o →
+          Kept (admit_leaves w x c (cond (not a) (refused 1 []) (cond (not b) (refused 2 []) (admit_free h o))))
+      go false b h o i q e = old
+      go true false h o i q e = old
+      go true true (Some i) o j q e = old
+      go true true None (Some y) i q e = old
+      go true true None None i q e =
           let p = and_parts (leb 1 c) (leb c 128) q in
           let k : Cradled c = (leb-true 1 c p.0, leb-true c 128 p.1) in
           kept_with (set w.server.cradles (c - 1) (with_arrival (cradle w.server c) x))
           (record { serial = x; cradle = c } ∷ w.book.arrivals) w.book.departures
+          (λ a h. elim h [ inl same ↦ ap (λ y. is_serial y.serial) same ∙ i | inr more ↦ old.serials.of_arrivals a more ])
           (admit_agrees (cradle w.server) (cradle (admitted w.server x c)) w.book old.agrees x c k e
           (one_other w.server c (with_arrival (cradle w.server c) x) sound.cradle_count k))
-
-  abbrev remove_leaves : ℕ → Option ℕ → Verdict (Unit {0}) → Site
-  remove_leaves x o v = record { server = if_done v (left_at w.server o) w.server; book = told w.book (remove x) (is_err v); files = w.files }
 
   remove_keeps : (x : ℕ) → Kept (called w (remove x))
   remove_keeps x = go (is_serial x) (seat_of x w.server) refl
     where
-      seat : (i : ℕ) → seat_of x w.server ≡ Some i → (d : Bool) → Kept (remove_leaves x (Some i) (cond d (refused 6 []) (Ok tt)))
+      seat : (i : ℕ) → seat_of x w.server ≡ Some i → (d : Bool) → Kept (remove_leaves w x (Some i) (cond d (refused 6 []) (Ok tt)))
       seat i e true = old
       seat i e false =
           let found = position-Some (λ c. is_it x (seated c)) w.server.cradles i Empty e in
@@ -100,18 +124,18 @@ module _ (w : Site) (sound : Sound w.server) (old : Kept w) where
           let same : i + 1 - 1 ≡ i = omega arith in
           let is : seated (cradle w.server (i + 1)) ≡ Some x =
           ap (λ n. seated (get_or w.server.cradles n Empty)) same ∙ it_is x (seated (get_or w.server.cradles i Empty)) found.1 in
-          kept_with (set w.server.cradles (i + 1 - 1) (with_departure (cradle w.server (i + 1)))) w.book.arrivals (x ∷ w.book.departures)
+          kept_with (set w.server.cradles (i + 1 - 1) (with_departure (cradle w.server (i + 1)))) w.book.arrivals (x ∷ w.book.departures) old.serials.of_arrivals
           (remove_agrees (cradle w.server) (cradle (left_at w.server (Some i))) w.book old.agrees x (i + 1) is
           (λ d h s. sound.seats_apart d (i + 1) x h k s is)
           (one_other w.server (i + 1) (with_departure (cradle w.server (i + 1))) sound.cradle_count k))
 
-      go : (a : Bool) (o : Option ℕ) → seat_of x w.server ≡ o → Kept (remove_leaves x o (cond (not a) (refused 1 []) (remove_seated w.server o)))
+      go : (a : Bool) (o : Option ℕ) → seat_of x w.server ≡ o → Kept (remove_leaves w x o (cond (not a) (refused 1 []) (remove_seated w.server o)))
       go false o e = old
       go true None e = old
       go true (Some i) e = seat i e (departs (cradle w.server (i + 1)))
 
   drop_keeps : Kept (called w drop_notes)
-  drop_keeps = kept_with (map without_notes w.server.cradles) [] []
+  drop_keeps = kept_with (map without_notes w.server.cradles) [] [] (λ a h. absurd h)
       (drop_agrees (cradle w.server) (λ c. get_or (map without_notes w.server.cradles) (c - 1) Empty) w.book old.agrees
       (λ d h. get_or-map without_notes w.server.cradles (d - 1) Empty))
 
@@ -160,18 +184,16 @@ module _ (laws : StateLaws) (w : Site) (sound : Sound w.server) (old : Kept w) (
           (link_new laws s p given sound ok w.files q i);
     }
 
-    epochs : (e : ℕ) → EpochOf (new_edition s p ∷ w.files) e ↔ ((1 ≤ e) × (e ≤ b.epoch + 1))
-    epochs e = (to, from)
-      where
-        to : EpochOf (new_edition s p ∷ w.files) e → (1 ≤ e) × (e ≤ b.epoch + 1)
-        to (x, (inl q, h)) = let now : s.epoch + 1 ≡ e = sym (ap (λ y. y.notice.epoch) q) ∙ h in (omega (arith, now), omega (arith, now, old.same_epoch))
-        to (x, (inr i, h)) = let r = (old.published_epochs e).0 (x, (i, h)) in (r.0, omega (arith, r.1))
+    serial_next : (t : Seat) → In t (next_epoch b).seats → is_serial t.serial ≡ true
+    serial_next t i = elim (seat_next b t i) [
+      | inl r ↦ ap (λ u. is_serial u.serial) r.1.1 ∙ old.serials.of_arrivals r.0 r.1.0
+      | inr r ↦ old.serials.of_seats t r.0
+    ]
 
-        from : (1 ≤ e) × (e ≤ b.epoch + 1) → EpochOf (new_edition s p ∷ w.files) e
-        from (low, high) = elim (cases_eq e (b.epoch + 1)) [
-          | inl q ↦ (new_edition s p, (inl refl, ap (λ n. n + 1) old.same_epoch ∙ sym q))
-          | inr other ↦ let r = (old.published_epochs e).1 (low, omega arith) in (r.0, (inr r.1.0, r.1.1))
-        ]
+    newest : (x : Edition) → In x (new_edition s p ∷ w.files) → x.notice.epoch ≡ s.epoch + 1 → group_key x ≡ (present 1).key
+    newest x (inl q) e = ap group_key q ∙ root_key (s.epoch + 1) (row s) p.material former present (laws.renewal s p.material sound)
+        (laws.noted_root s sound (noted_of s p ok)) (plan_passed s p ok).1.1
+    newest x (inr i) e = absurd (omega (arith, e, (epochs_past w.files b.epoch old.in_order x i).1, old.same_epoch))
 
     accepted : Kept (record { server = published s p.material; book = next_epoch b; files = new_edition s p ∷ w.files })
     accepted = record {
@@ -179,20 +201,14 @@ module _ (laws : StateLaws) (w : Site) (sound : Sound w.server) (old : Kept w) (
       agrees = publish_agrees (cradle s) (cradle (published s p.material)) b old.agrees (λ d k. get_or-map carried_out s.cradles (d - 1) Empty);
       steady = steady_next b.epoch (row s) (plan_of s p) p.material former present b.seats (next_epoch b).seats b.ended (next_epoch b).ended
           (Link w.files) (Link (new_edition s p ∷ w.files)) old.steady change;
-      published_epochs = epochs;
+      serials = record { of_seats = serial_next; of_arrivals = λ a h. absurd h };
+      in_order = ap₂ (λ (e : ℕ) (l : List ℕ). e ∷ l) (ap (λ n. n + 1) old.same_epoch) old.in_order ∙ sym (falling_next b.epoch);
+      newest = newest;
       all_readable = λ x i. elim i [ inl q ↦ rw q (readable laws s p given sound ok) | inr j ↦ old.all_readable x j ];
     }
 
-  -- what a publishing leaves, by its verdict
-  abbrev publish_leaves : Verdict Published → Site
-  publish_leaves v = record {
-    server = if_done v (published s p.material) s;
-    book = told b (publish p) (is_err v);
-    files = edition p.wrap v (if_done v (written (file_of s p) ++ drop (size_of s p) p.file) p.file) ++ w.files;
-  }
-
   publish_keeps : Kept (called w (publish p))
-  publish_keeps = accepted_or_refused s p (λ v. Kept (publish_leaves v)) accepted (λ f. old)
+  publish_keeps = accepted_or_refused s p (λ v. Kept (publish_leaves w p v)) accepted (λ f. old)
 
 -- at no number, also past the end
 none_made : (k n : ℕ) → (held (replicate k unmade) n).made ≡ 0
@@ -221,7 +237,9 @@ module _ (laws : StateLaws) where
       path = λ t i. absurd i;
       history = λ s i. elim i [ inl j ↦ absurd j.0 | inr j ↦ absurd j ];
     };
-    published_epochs = λ e. ((λ x. absurd x.1.0), λ h. absurd (omega (arith, h.0, h.1)));
+    serials = record { of_seats = λ t i. absurd i; of_arrivals = λ a i. absurd i };
+    in_order = refl;
+    newest = λ x i. absurd i;
     all_readable = λ x i. absurd i;
   }
 

@@ -2,8 +2,15 @@ pub mod Chains
 pub mod Steady
 pub mod Renewals
 pub mod SteadyNext
+pub mod Falling
+pub mod RootKeys
 pub mod Agreement
 pub mod Editions
 pub mod Kept
+pub mod Cards
+pub mod Plays
+pub mod PlaysNext
+pub mod Playing
+pub mod Courses
 pub mod EveryRun
 pub mod Servers

@@ -9,11 +9,8 @@ use Rattle.group.specs.Sound.{Sound}
 use Rattle.group.proofs.EveryCall.{state_laws}
 use Rattle.runs.specs.Runs.{FromRun}
 
-pub new_sound : Sound new_state
-new_sound = state_laws.new_sound
-
-pub new_run : ∥ FromRun new_state ∥₁
-new_run = ∣ ([], (tt, refl)) ∣₁
+pub new_kept : Sound new_state × ∥ FromRun new_state ∥₁
+new_kept = (state_laws.new_sound, ∣ ([], (tt, refl)) ∣₁)
 
 module _ (c : Call) (given : Given c) (s t : State) (is : t ≡ after s c) where
   pub sound_after : Sound s → Sound t

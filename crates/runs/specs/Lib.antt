@@ -1,4 +1,5 @@
 pub mod Book
 pub mod Runs
 pub mod Reach
+pub mod Players
 pub mod Law

@@ -1,9 +1,10 @@
-//! Runs of a server from its beginning on, the site book beside them, and who reaches a group key.
+//! Runs of a server from its beginning on, the site book and the players beside them, and whom a group key belongs to.
 #![tactic(auto)]
 
 ghost use Rattle.runs.specs.Law.{EveryRun};
 
-/// Group keys are reached exactly by members, whatever was called.
+/// A group key belongs to its members, whatever was called.
+#[tactic(auto, using(crate::proofs::EveryRun::every_run))]
 pub fn every_run()
     ensures { EveryRun }
 {}

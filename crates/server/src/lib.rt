@@ -31,11 +31,12 @@ use tree::{Pair, Strategy};
 use wrap::Wrap;
 
 impl Server {
-    /// A new server. Whatever is called on it, group keys are reached exactly by members.
-    #[tactic(auto, using(runs::proofs::Servers::new_sound, runs::proofs::Servers::new_run, runs::proofs::EveryRun::every_run, group::proofs::EveryCall::state_laws))]
+    /// A new server. Whatever is called on it, the group key of an epoch belongs to its members: it is reached by nobody else, and each
+    /// of their players holds it.
+    #[tactic(auto, using(runs::proofs::EveryRun::every_run, runs::proofs::Servers::new_kept))]
     pub fn new() -> Server
         ensures server { result.state ≡ new_state }
-        ensures reached_by_members { EveryRun }
+        ensures belongs_to_members { EveryRun }
     {
         Server {
             state: State {
