@@ -1,2 +1,3 @@
 mod Worked
 mod Serving
+mod All

@@ -1,11 +1,11 @@
-//! The worked examples of plans and of a server, of the definitions themselves. There is no code to run here.
+//! The worked examples, of the definitions themselves. There is no code to run here.
 #![tactic(auto)]
 
-ghost use Rattle.examples.specs.Examples.{Examples};
-ghost use Rattle.examples.specs.Servers.{ServerExamples};
+ghost use Rattle.examples.specs.Worked.{WorkedExamples};
 
-/// The numbers of pairs in the worked examples are what they are said to be, and a server does in them what it is said to do.
+/// Two entries of the S-box, the numbers of pairs and bytes of small and of the largest changes, and what a server does in its first
+/// change and in its last.
+#[tactic(auto, using(crate::proofs::All::worked_examples))]
 pub fn worked_examples_hold()
-    ensures plans { Examples }
-    ensures server { ServerExamples }
+    ensures { WorkedExamples }
 {}
