@@ -1,7 +1,8 @@
-//! Runs a key server through a story, and prints what was asked in each call and what came of it. The key material is read from
-//! standard input.
+//! Runs sites from the making of their servers to the last file, one under each strategy and wrap, and prints what came of each
+//! call. The key material is read from standard input.
 #![tactic(auto)]
 
+mod board;
 mod site;
 mod told;
 
@@ -10,51 +11,84 @@ use site::Site;
 use siv::Siv;
 use std::io::{self, Read};
 use strategies::{KeyOriented, Star, UserOriented};
+use tree::Strategy;
+use wrap::Wrap;
 
-fn fill_and_empty(rt: &HostRuntime, site: &mut Site<'_>) -> io::Result<()> {
+// Scanners arrive, one is removed, one comes back from repair as a newcomer, and at last all are gone.
+fn story<S: Strategy, W: Wrap>(
+    rt: &HostRuntime,
+    name: &str,
+    strategy: &S,
+    wrap: &W,
+    material: &mut &[u8],
+) -> io::Result<()> {
+    let kind = wrap.kind();
+    println!(rt; "site {name} {kind}")?;
+    let mut site = Site::new(rt);
     site.admit(rt, 1001, 1)?;
-    site.publish(rt, "key-oriented", &KeyOriented::default(), &KeyWrap)?;
+    site.publish(rt, strategy, wrap, material)?;
     site.admit(rt, 1002, 2)?;
-    site.publish(rt, "key-oriented", &KeyOriented::default(), &KeyWrap)?;
-    site.remove(rt, 1001)?;
-    site.publish(rt, "key-oriented", &KeyOriented::default(), &KeyWrap)
-}
-
-fn change_by_each_strategy_and_wrap(rt: &HostRuntime, site: &mut Site<'_>) -> io::Result<()> {
     site.admit(rt, 1003, 3)?;
-    site.publish(rt, "star", &Star::default(), &KeyWrap)?;
     site.admit(rt, 1004, 128)?;
-    site.publish(rt, "star", &Star::default(), &Siv)?;
-    site.remove(rt, 1003)?;
-    site.admit(rt, 1005, 3)?;
-    site.publish(rt, "user-oriented", &UserOriented::default(), &KeyWrap)?;
-    site.admit(rt, 1006, 1)?;
-    site.publish(rt, "user-oriented", &UserOriented::default(), &Siv)?;
-    site.remove(rt, 1004)?;
-    site.publish(rt, "key-oriented", &KeyOriented::default(), &KeyWrap)?;
-    site.remove(rt, 1005)?;
-    site.admit(rt, 1005, 64)?;
-    site.publish(rt, "key-oriented", &KeyOriented::default(), &Siv)
-}
-
-fn be_refused(rt: &HostRuntime, site: &mut Site<'_>) -> io::Result<()> {
-    site.publish(rt, "star", &Star::default(), &KeyWrap)?;
-    site.admit(rt, 1007, 129)?;
-    site.admit(rt, 1007, 2)?;
-    site.admit(rt, 1002, 5)?;
+    site.publish(rt, strategy, wrap, material)?;
+    site.remove(rt, 1002)?;
+    site.publish(rt, strategy, wrap, material)?;
     site.remove(rt, 1001)?;
+    site.admit(rt, 1001, 64)?;
+    site.admit(rt, 1005, 2)?;
+    site.publish(rt, strategy, wrap, material)?;
+    site.try_spoilt(rt, wrap)?;
+    site.admit(rt, 1006, 129)?;
+    site.admit(rt, 1005, 4)?;
+    site.admit(rt, 1006, 2)?;
     site.remove(rt, 1002)?;
-    site.remove(rt, 1002)?;
-    site.drop_notes(rt)
+    site.admit(rt, 1006, 5)?;
+    site.drop_notes(rt)?;
+    site.remove(rt, 1003)?;
+    site.remove(rt, 1003)?;
+    site.publish(rt, strategy, wrap, material)?;
+    site.wipe(rt, 1003)?;
+    site.remove(rt, 1001)?;
+    site.remove(rt, 1004)?;
+    site.remove(rt, 1005)?;
+    site.publish(rt, strategy, wrap, material)?;
+    site.publish(rt, strategy, wrap, material)
 }
 
 fn run(rt: &HostRuntime) -> anyhow::Result<()> {
-    let mut material = Vec::new(rt.alloc());
-    rt.stdin().read_to_end(&mut material)?;
-    let mut site = Site::new(material.as_slice());
-    fill_and_empty(rt, &mut site)?;
-    change_by_each_strategy_and_wrap(rt, &mut site)?;
-    be_refused(rt, &mut site)?;
+    let mut input = Vec::new(rt.alloc());
+    rt.stdin().read_to_end(&mut input)?;
+    let mut material = input.as_slice();
+    story(rt, "star", &Star::default(), &KeyWrap, &mut material)?;
+    story(rt, "star", &Star::default(), &Siv, &mut material)?;
+    story(
+        rt,
+        "user-oriented",
+        &UserOriented::default(),
+        &KeyWrap,
+        &mut material,
+    )?;
+    story(
+        rt,
+        "user-oriented",
+        &UserOriented::default(),
+        &Siv,
+        &mut material,
+    )?;
+    story(
+        rt,
+        "key-oriented",
+        &KeyOriented::default(),
+        &KeyWrap,
+        &mut material,
+    )?;
+    story(
+        rt,
+        "key-oriented",
+        &KeyOriented::default(),
+        &Siv,
+        &mut material,
+    )?;
     Ok(())
 }
 

@@ -1,5 +1,6 @@
-//! A site: its server, the key material that is left, and what is lent to its calls.
+//! A site: its server, the boards that ever were enrolled there, and its files.
 
+use crate::board::Board;
 use crate::told;
 use server::{CARD_BYTES, Server};
 use std::io;
@@ -12,28 +13,26 @@ const PAIRS: usize = 896;
 // The most bytes that a file has with the wraps of this program.
 const FILE_BYTES: usize = 48_521;
 
+// The scanners of this program.
+const SERIALS: [u16; 6] = [1001, 1002, 1003, 1004, 1005, 1006];
+
 /// A site at work.
 #[derive(Drop)]
-pub(crate) struct Site<'a> {
+pub(crate) struct Site {
     server: Server,
-    material: &'a [u8],
-    pairs: [Pair; PAIRS],
-    file: [u8; FILE_BYTES],
-    work: [u8; WORKING_BYTES],
+    boards: Vec<Board>,
+    // The newest file, and the one before it.
+    file: Vec<u8>,
+    former: Vec<u8>,
 }
 
-impl<'a> Site<'a> {
-    pub(crate) fn new(material: &'a [u8]) -> Site<'a> {
-        let unused = Pair {
-            opener: Opener::Present(1),
-            content: 1,
-        };
+impl Site {
+    pub(crate) fn new(rt: &HostRuntime) -> Site {
         Site {
             server: Server::new(),
-            material,
-            pairs: [unused; PAIRS],
-            file: [0; FILE_BYTES],
-            work: [0; WORKING_BYTES],
+            boards: Vec::new(rt.alloc()),
+            file: Vec::new(rt.alloc()),
+            former: Vec::new(rt.alloc()),
         }
     }
 
@@ -58,41 +57,163 @@ impl<'a> Site<'a> {
         println!(rt; "drop: notes cleared")
     }
 
+    /// Publishes, and hands the file to all boards.
     pub(crate) fn publish<S: Strategy, W: Wrap>(
         &mut self,
         rt: &HostRuntime,
-        name: &str,
         strategy: &S,
         wrap: &W,
+        material: &mut &[u8],
     ) -> io::Result<()> {
-        let kind = wrap.kind();
-        print!(rt; "publish {name} {kind}: ")?;
-        let told = self.server.publish(
-            strategy,
-            wrap,
-            self.material,
-            &mut self.pairs,
-            &mut self.file,
-            &mut self.work,
-        );
-        match told {
-            Ok(published) => {
-                self.material = &self.material[published.drawn..];
-                told::published(rt, published)?;
-                self.show_cards(rt)
-            }
-            Err(fault) => told::publish_fault(rt, fault),
+        if self.change(rt, strategy, wrap, material)? {
+            self.enrol(rt, wrap)?;
+            self.hand_out(rt, wrap)?;
         }
+        Ok(())
     }
 
-    // The card of each scanner that is in a cradle, but for its key.
-    fn show_cards(&self, rt: &HostRuntime) -> io::Result<()> {
-        let mut card = [0; CARD_BYTES];
-        for serial in 1..=9999 {
-            if self.server.card(serial, &mut card).is_ok() {
-                told::card(rt, &card)?;
+    /// Wipes the boards of a scanner.
+    pub(crate) fn wipe(&mut self, rt: &HostRuntime, serial: u16) -> io::Result<()> {
+        for board in self.boards.iter_mut() {
+            if board.serial() == serial {
+                board.wipe();
+                if board.is_wiped() {
+                    println!(rt; "wipe {serial}: zeros")?;
+                }
             }
         }
         Ok(())
     }
+
+    /// Tries the newest newcomer's card with a wrong leaf and with a wrong key, and the newest file without its last byte.
+    pub(crate) fn try_spoilt<W: Wrap>(&self, rt: &HostRuntime, wrap: &W) -> io::Result<()> {
+        let Some(newest) = self.boards.last() else {
+            return Ok(());
+        };
+        let mut card = newest.card;
+        card[2] = 0;
+        if let Err(fault) = Board::enrolled(card) {
+            print!(rt; "a card with leaf 0: ")?;
+            told::enrol_fault(rt, fault)?;
+        }
+        let mut card = newest.card;
+        card[CARD_BYTES - 1] ^= 1;
+        match Board::enrolled(card) {
+            Ok(board) => self.try_board(rt, wrap, board),
+            Err(fault) => told::enrol_fault(rt, fault),
+        }
+    }
+
+    fn try_board<W: Wrap>(&self, rt: &HostRuntime, wrap: &W, mut board: Board) -> io::Result<()> {
+        if let Some((_, cut)) = self.file.as_slice().split_last() {
+            if let Some(fault) = board.read(wrap, cut) {
+                print!(rt; "a file without its last byte: ")?;
+                told::read_fault(rt, fault)?;
+            }
+        }
+        if let Some(fault) = board.read(wrap, self.file.as_slice()) {
+            print!(rt; "a card with a wrong key: ")?;
+            told::read_fault(rt, fault)?;
+        }
+        Ok(())
+    }
+
+    // Publishes; whether that was not refused.
+    fn change<S: Strategy, W: Wrap>(
+        &mut self,
+        rt: &HostRuntime,
+        strategy: &S,
+        wrap: &W,
+        material: &mut &[u8],
+    ) -> io::Result<bool> {
+        let unused = Pair {
+            opener: Opener::Present(1),
+            content: 1,
+        };
+        let mut pairs = [unused; PAIRS];
+        let mut file = [0; FILE_BYTES];
+        let mut work = [0; WORKING_BYTES];
+        print!(rt; "publish: ")?;
+        let told = self.server.publish(strategy, wrap, *material, &mut pairs, &mut file, &mut work);
+        match told {
+            Ok(published) => {
+                *material = &material[published.drawn..];
+                self.former.clear();
+                self.former.extend_from_slice(self.file.as_slice())?;
+                self.file.clear();
+                self.file.extend_from_slice(&file[..published.bytes])?;
+                told::published(rt, published)?;
+                Ok(true)
+            }
+            Err(fault) => {
+                told::publish_fault(rt, fault)?;
+                Ok(false)
+            }
+        }
+    }
+
+    // Enrols a board with each card that no board is enrolled with. A newcomer tries the file before its own.
+    fn enrol<W: Wrap>(&mut self, rt: &HostRuntime, wrap: &W) -> io::Result<()> {
+        let mut card = [0; CARD_BYTES];
+        for serial in SERIALS {
+            if self.server.card(u32::from(serial), &mut card).is_ok()
+                && !self.boards.iter().any(|b| b.card == card)
+            {
+                match Board::enrolled(card) {
+                    Ok(mut board) => {
+                        told::card(rt, &card)?;
+                        self.try_former(rt, wrap, &mut board)?;
+                        self.boards.push(board)?;
+                    }
+                    Err(fault) => told::enrol_fault(rt, fault)?,
+                }
+            }
+        }
+        Ok(())
+    }
+
+    fn try_former<W: Wrap>(&self, rt: &HostRuntime, wrap: &W, board: &mut Board) -> io::Result<()> {
+        if self.former.is_empty() {
+            return Ok(());
+        }
+        match board.read(wrap, self.former.as_slice()) {
+            Some(fault) => {
+                print!(rt; "{} reads the file before: ", board.serial())?;
+                told::read_fault(rt, fault)
+            }
+            None => Ok(()),
+        }
+    }
+
+    // All boards read the newest file.
+    fn hand_out<W: Wrap>(&mut self, rt: &HostRuntime, wrap: &W) -> io::Result<()> {
+        let epoch = self.server.epoch();
+        for board in self.boards.iter_mut() {
+            if let Some(fault) = board.read(wrap, self.file.as_slice()) {
+                print!(rt;
+                    "{} of epoch {} reads the file of epoch {epoch}: ",
+                    board.serial(),
+                    board.first()
+                )?;
+                told::read_fault(rt, fault)?;
+            }
+        }
+        let (holders, members) = count(&self.server, self.boards.as_slice());
+        println!(rt; "{holders} of {members} members hold the group key of epoch {epoch}")
+    }
+}
+
+// Whether the board's card is that of a scanner that is in a cradle now.
+fn is_member(server: &Server, board: &Board) -> bool {
+    let mut card = [0; CARD_BYTES];
+    server.card(u32::from(board.serial()), &mut card).is_ok() && card == board.card
+}
+
+// How many members hold the server's group key, and how many members there are.
+fn count(server: &Server, boards: &[Board]) -> (usize, usize) {
+    let key = Some(server.group_key());
+    let members = boards.iter().filter(|board| is_member(server, board));
+    let holders = boards.iter().filter(|board| is_member(server, board)
+        && board.group_key() == key);
+    (holders.count(), members.count())
 }

@@ -1,6 +1,8 @@
 //! What came of a call, as a line.
 
 use group::Published;
+use layout::FileFault;
+use player::{EnrolFault, ReadFault};
 use server::{AdmitFault, CARD_BYTES, PublishFault};
 use std::io;
 
@@ -40,4 +42,34 @@ pub(crate) fn card(rt: &HostRuntime, card: &[u8; CARD_BYTES]) -> io::Result<()> 
     let leaf = card[2];
     let epoch = u32::from_be_bytes([card[3], card[4], card[5], card[6]]);
     println!(rt; "card {serial}: leaf {leaf} epoch {epoch}")
+}
+
+pub(crate) fn enrol_fault(rt: &HostRuntime, fault: EnrolFault) -> io::Result<()> {
+    let number = fault.number();
+    match fault {
+        EnrolFault::Card { place } => println!(rt; "no {number} {place}"),
+        EnrolFault::NotARing => println!(rt; "no {number}"),
+    }
+}
+
+pub(crate) fn read_fault(rt: &HostRuntime, fault: ReadFault) -> io::Result<()> {
+    let number = fault.number();
+    match fault {
+        ReadFault::TooLow { wanted } | ReadFault::TooHigh { wanted } => println!(rt;
+            "no {number} {wanted}"
+        ),
+        ReadFault::ShutOut { node } => println!(rt; "no {number} {node}"),
+        ReadFault::File { epoch, fault } => file_fault(rt, epoch, fault),
+        ReadFault::ShortWorking | ReadFault::NotARing => println!(rt; "no {number}"),
+    }
+}
+
+// The epoch is told with bytes that do not open, and with nothing else.
+fn file_fault(rt: &HostRuntime, epoch: Option<u32>, fault: FileFault) -> io::Result<()> {
+    let number = fault.number();
+    match (fault, epoch) {
+        (FileFault::Layout { place }, _) => println!(rt; "no {number} {place}"),
+        (FileFault::Wrap { index, .. }, Some(epoch)) => println!(rt; "no {number} {index} {epoch}"),
+        (FileFault::Wrap { index, .. }, None) => println!(rt; "no {number} {index}"),
+    }
 }

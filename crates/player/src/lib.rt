@@ -1,0 +1,27 @@
+//! The player: it is enrolled with a card, reads rekey files, shows the group key, and is wiped.
+#![tactic(auto)]
+
+ghost use Rattle.std.specs.Prelude.{◌≡◌};
+
+mod card;
+mod fault;
+mod players;
+mod read;
+mod rings;
+mod seated;
+mod waiting;
+
+pub use card::{CARD_BYTES, enrol};
+pub use climb::ReadFault;
+pub use fault::{EnrolFault, RingFault};
+pub use players::{Refused, Seated, Waiting, Wiped};
+pub use ring::RING_BYTES;
+
+impl Wiped {
+    /// The serial of the player.
+    pub fn serial(&self) -> u16
+        ensures { result ≡ self.now.serial }
+    {
+        self.serial
+    }
+}
