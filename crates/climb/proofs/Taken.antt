@@ -1,5 +1,5 @@
 -- What an opening makes of an entry, and what an entry makes of a ring.
-use Rattle.std.proofs.Common.{sym, ◌≡◌, ℕ, ◌+◌, ◌<◌, ◌≤◌, Bool, true, false, ◌&&◌, cond, eqb, List, [], length, set, Ok, Err, Some, None, Option, Result, is_some, refl, ap, ◌∙◌}
+use Rattle.std.proofs.Common.{◌≡◌, ℕ, ◌+◌, ◌<◌, ◌≤◌, Bool, true, false, ◌&&◌, cond, eqb, List, [], length, set, Ok, Err, Some, None, Option, Result, is_some, refl, ap}
 use Rattle.std.proofs.lemmas.Bool.{le-ltb}
 use Rattle.std.proofs.lemmas.Option.{get_or_from_slice_get}
 use Rattle.reader.proofs.Laid.{wraps_nth}
@@ -7,14 +7,13 @@ use Rattle.byte_strings.specs.Numbers.{byte_at}
 use Rattle.refusal.specs.Refusals.{refused, told, if_done}
 use Rattle.wrap.specs.Calls.{tight, open_verdict, open_leaves, content_or}
 use Rattle.keys.specs.declared.NodeKey.{NodeKey}
-use Rattle.keys.specs.Names.{wrap_name, named, held}
-use Rattle.rekey.specs.Files.{Wrapped, Rekey}
+use Rattle.keys.specs.Names.{wrap_name, named}
+use Rattle.rekey.specs.Files.{Wrapped}
 use Rattle.rekey.specs.Layout.{wrap_count}
 use Rattle.rekey.specs.Reading.{wrap_at, wrap_place, wraps_from, read_back}
 use Rattle.layout.specs.Refusals.{with_index}
 use Rattle.group.specs.Calls.{KeyWrap}
-use Rattle.scanner.specs.declared.found.Found.{Found}
-use Rattle.scanner.specs.Climbs.{no_wrap, wrap_of, opening, taken, opened_by}
+use Rattle.scanner.specs.Climbs.{no_wrap, wrap_of, opening, taken}
 use Rattle.climb.specs.declared.fault.ReadFault.{ReadFault}
 use Rattle.climb.specs.Refusals.{with_epoch, refusal_of, told_with}
 use Rattle.climb.specs.Entries.{entry_taken}
@@ -43,13 +42,8 @@ entry_opened w epoch index key place work x r h e =
     opened epoch index place (tight work) (eqb (length x.sealed_key) w.length) (w.opens key (wrap_name x.opener (named x.content epoch)) x.sealed_key) r (le-ltb (length work) 512 h) e
 
 -- the entry goes into the ring
-entry_set : (epoch k index : ℕ) (entry : NodeKey) (ring : List NodeKey) (o : Option (List ℕ)) (r : Result (Unit {0}) ReadFault) → told_with r entry ≡ entry_taken epoch index o → told_with r (set ring k entry) ≡ taken epoch k index ring o
+pub entry_set : (epoch k index : ℕ) (entry : NodeKey) (ring : List NodeKey) (o : Option (List ℕ)) (r : Result (Unit {0}) ReadFault) → told_with r entry ≡ entry_taken epoch index o → told_with r (set ring k entry) ≡ taken epoch k index ring o
 entry_set epoch k index entry ring (Some c) (Ok u) e = let is : entry ≡ record { made = epoch; key = c } = cc in ap (λ x. Ok (set ring k x)) is
 entry_set epoch k index entry ring (Some c) (Err f) e = cc
 entry_set epoch k index entry ring None (Ok u) e = cc
 entry_set epoch k index entry ring None (Err f) e = cc
-
-pub opened_set : (w : KeyWrap) (f : Rekey) (node k : ℕ) (entry : NodeKey) (ring : List NodeKey) (found : Option Found) (it : Found) (r : Result (Unit {0}) ReadFault) → found ≡ Some it →
-    told_with r entry ≡ entry_taken f.epoch it.wrap (opening w f.epoch (held ring it.entry).key (wrap_of f it.wrap)) → told_with r (set ring k entry) ≡ opened_by w f node k ring found
-opened_set w f node k entry ring found it r e t =
-    entry_set f.epoch k it.wrap entry ring (opening w f.epoch (held ring it.entry).key (wrap_of f it.wrap)) r t ∙ sym (ap (opened_by w f node k ring) e)

@@ -3,11 +3,11 @@ ghost use Rattle.std.specs.Prelude.{◌≡◌, ◌<◌, ◌≤◌, length, repli
 ghost use Rattle.byte_strings.specs.Numbers.{number4};
 ghost use Rattle.refusal.specs.Refusals.{told};
 ghost use Rattle.layout.specs.Refusals.{with_index};
-ghost use Rattle.keys.specs.Names.{unmade};
+ghost use Rattle.keys.specs.Names.{unmade, held};
 ghost use Rattle.rekey.specs.Layout.{wrap_count};
 ghost use Rattle.rekey.specs.Reading.{read_back};
 ghost use Rattle.group.specs.Calls.{key_wrap};
-ghost use Rattle.scanner.specs.Climbs.{wrap_of, opening, opened_by, risen, followed};
+ghost use Rattle.scanner.specs.Climbs.{wrap_of, opening, taken, opened_by, risen, followed};
 ghost use Rattle.scanner.specs.Searches.{found_from};
 ghost use Rattle.scanner.specs.Rings.{entries};
 ghost use Rattle.scanner.specs.Players.{ring_or};
@@ -19,6 +19,7 @@ use crate::search::opener_of;
 use keys::NodeKey;
 use reader::RekeyFile;
 use ring::{Ring, node_above};
+use scanner::Found;
 use wrap::Wrap;
 
 // Opens a wrap of the file under a key, and writes its content to `place`.
@@ -62,8 +63,34 @@ fn take<W: Wrap>(
     Ok(())
 }
 
+// The content of the wrap that was found becomes entry k.
+#[tactic(auto, using(crate::proofs::Taken::entry_set))]
+fn take_found<W: Wrap>(
+    wrap: &W,
+    file: RekeyFile<'_>,
+    found: Found,
+    k: usize,
+    ring: &mut Ring,
+    work: &mut [u8],
+) -> Result<(), ReadFault>
+    requires wrap { file.sealed_len ≡ W.wrap_length }
+    requires index { found.wrap < wrap_count file.bytes.now }
+    requires opener { found.entry < 8 }
+    requires working { 512 ≤ length work.old }
+    requires entry { k < 8 }
+    ensures { told_with result ring.new.entries ≡ taken (number4 file.entry.bytes.now 3) k found.wrap ring.old.entries (opening (key_wrap W.wrap_kind W.wrap_length W.sealed W.opened) (number4 file.entry.bytes.now 3) (held ring.old.entries found.entry).key (wrap_of (read_back W.wrap_length file.entry.bytes.now) found.wrap)) }
+{
+    take(
+        wrap,
+        file,
+        found.wrap,
+        ring.entries[found.entry].key,
+        &mut ring.entries[k],
+        work,
+    )
+}
+
 // The new key of a listed node becomes entry k: the first wrap of it that the ring opens gives it.
-#[tactic(auto, using(crate::proofs::Taken::opened_set))]
 fn renew<W: Wrap>(
     wrap: &W,
     file: RekeyFile<'_>,
@@ -81,14 +108,7 @@ fn renew<W: Wrap>(
     let Some(found) = opener_of(file, ring, leaf, node) else {
         return Err(ReadFault::ShutOut { node });
     };
-    take(
-        wrap,
-        file,
-        found.wrap,
-        ring.entries[found.entry].key,
-        &mut ring.entries[k],
-        work,
-    )
+    take_found(wrap, file, found, k, ring, work)
 }
 
 // The node k halvings up: its new key is taken if it is listed.
