@@ -6,7 +6,7 @@ use lib.Bits.{bit_xor}
 use lib.Dec.{eqb}
 use Rattle.field.specs.Field.{x_times, scaled, sum_of_bits, product, even_power, inverse, rotl, affine, inv_affine, s_box, inv_s_box}
 use Rattle.field.specs.Laws.{BoxExamples}
-use Rattle.field.proofs.Tests.{agree, agree_pairs, stays}
+use Rattle.field.proofs.Tests.{agree, stays}
 
 pub inv_s_box_undoes : (b : ℕ) → b < 256 → inv_s_box (s_box b) ≡ b
 unfolding sum_of_bits product even_power inverse rotl affine inv_affine s_box inv_s_box
@@ -27,12 +27,6 @@ s_box_byte = stays s_box tt
 pub inv_s_box_byte : (b : ℕ) → b < 256 → inv_s_box b < 256
 unfolding sum_of_bits product even_power inverse rotl inv_affine inv_s_box
 inv_s_box_byte = stays inv_s_box tt
-
--- the product by a polynomial k of degree at most three, as the code makes it
-pub product_by : (k b : ℕ) → k < 16 → b < 256
-    → bit_xor (bit_xor (bit_xor (scaled (k % 2) b) (scaled (k / 2 % 2) (x_times b))) (scaled (k / 4 % 2) (x_times (x_times b)))) (scaled (k / 8) (x_times (x_times (x_times b)))) ≡ product k b
-unfolding sum_of_bits product
-product_by = agree_pairs (λ k b. bit_xor (bit_xor (bit_xor (scaled (k % 2) b) (scaled (k / 2 % 2) (x_times b))) (scaled (k / 4 % 2) (x_times (x_times b)))) (scaled (k / 8) (x_times (x_times (x_times b))))) product tt
 
 pub box_examples : BoxExamples
 unfolding sum_of_bits product even_power inverse rotl affine s_box

@@ -3,3 +3,4 @@ pub mod Tables
 pub mod Boxes
 pub mod Linear
 pub mod Columns
+pub mod Words

@@ -55,8 +55,3 @@ agree f g t b h = eqb→eq (f b) (g b) (byte (λ k. eqb (f k) (g k)) t b h)
 -- a function whose value at each byte is a byte
 pub stays : (f : ℕ → ℕ) → T (all (λ k. ltb (f k) 256) 0 256) → (b : ℕ) → b < 256 → f b < 256
 stays f t b h = ltb→lt (f b) 256 (byte (λ k. ltb (f k) 256) t b h)
-
--- two functions of a number below 16 and a byte
-pub agree_pairs : (f g : ℕ → ℕ → ℕ) → T (all (λ k. all (λ b. eqb (f k b) (g k b)) 0 256) 0 16) → (k b : ℕ) → k < 16 → b < 256 → f k b ≡ g k b
-agree_pairs f g t k b hk hb =
-    agree (f k) (g k) (subst (λ (m : ℕ). T (all (λ b. eqb (f m b) (g m b)) 0 256)) (zero-add k) (all_from (λ k. all (λ b. eqb (f k b) (g k b)) 0 256) 16 0 t k hk)) b hb

@@ -55,3 +55,21 @@ mix_byte a b c d = bit_xor (product 0x02 a) (bit_xor (product 0x03 b) (bit_xor c
 -- a byte of InvMixColumns
 abbrev pub inv_mix_byte : ℕ → ℕ → ℕ → ℕ → ℕ
 inv_mix_byte a b c d = bit_xor (product 0x0e a) (bit_xor (product 0x0b b) (bit_xor (product 0x0d c) (product 0x09 d)))
+
+-- what a byte of a column gives in MixColumns to the byte so many places below it, round the column
+abbrev pub mix_share : ℕ → ℕ → ℕ
+mix_share zero b = product 0x02 b
+mix_share (suc zero) b = b
+mix_share (suc (suc zero)) b = b
+mix_share (suc (suc (suc i))) b = product 0x03 b
+
+-- and in InvMixColumns
+abbrev pub inv_mix_share : ℕ → ℕ → ℕ
+inv_mix_share zero b = product 0x0e b
+inv_mix_share (suc zero) b = product 0x09 b
+inv_mix_share (suc (suc zero)) b = product 0x0d b
+inv_mix_share (suc (suc (suc i))) b = product 0x0b b
+
+-- a byte is the sum of the shares that it gets from the column's bytes, from itself on and round
+abbrev pub of_shares : (ℕ → ℕ → ℕ) → ℕ → ℕ → ℕ → ℕ → ℕ
+of_shares share a b c d = bit_xor (share 0 a) (bit_xor (share 3 b) (bit_xor (share 2 c) (share 1 d)))

@@ -1,13 +1,15 @@
 //! The rounds of AES on a state of 16 bytes, by value.
 #![tactic(auto)]
 
-ghost use Rattle.std.specs.Prelude.{◌≡◌, ℕ, ◌+◌, ◌*◌, ◌%◌, ◌<◌, map};
-ghost use Rattle.byte_strings.specs.Strings.{xors};
+ghost use Rattle.std.specs.Prelude.{◌≡◌, ◌<◌, ◌≤◌, map};
+ghost use Rattle.std.specs.Int.{to_le_bytes, w64};
+ghost use Rattle.byte_strings.specs.Strings.{part};
+ghost use Rattle.field.specs.Field.{of_shares};
 ghost use Rattle.round.specs.Rounds.{round_of, last_round, inv_round, inv_last_round};
-ghost use Rattle.round.specs.State.{shift_rows, inv_shift_rows, columns};
+ghost use Rattle.round.specs.State.{shift_rows, inv_shift_rows, columns, add_round_key};
 
-use byte_strings::xored;
-use field::{Direction, Forward, Inverse};
+use byte_strings::part_of;
+use field::{Direction, Forward, Inverse, mix_column};
 use std::array;
 
 /// SubBytes and InvSubBytes.
@@ -26,45 +28,54 @@ fn turn_rows(s: [u8; 16], times: usize) -> [u8; 16]
     array::from_fn(|i| s[(i + 4 * times * (i % 4)) % 16])
 }
 
-/// MixColumns and InvMixColumns: a byte goes with the three that follow it round its column. Written out, since by the index, through
-/// `array::from_fn`, a block of AES takes a third longer.
+/// MixColumns after SubBytes, and InvMixColumns: the columns go one by one, as words.
 fn mix_columns<D: Direction>(s: [u8; 16]) -> [u8; 16]
-    ensures { result ≡ columns D.mixed s }
+    ensures { result ≡ columns (of_shares D.share) s }
 {
+    let a = mix_column::<D>(s[0], s[1], s[2], s[3]);
+    let b = mix_column::<D>(s[4], s[5], s[6], s[7]);
+    let c = mix_column::<D>(s[8], s[9], s[10], s[11]);
+    let d = mix_column::<D>(s[12], s[13], s[14], s[15]);
     [
-        D::mix_byte(s[0], s[1], s[2], s[3]),
-        D::mix_byte(s[1], s[2], s[3], s[0]),
-        D::mix_byte(s[2], s[3], s[0], s[1]),
-        D::mix_byte(s[3], s[0], s[1], s[2]),
-        D::mix_byte(s[4], s[5], s[6], s[7]),
-        D::mix_byte(s[5], s[6], s[7], s[4]),
-        D::mix_byte(s[6], s[7], s[4], s[5]),
-        D::mix_byte(s[7], s[4], s[5], s[6]),
-        D::mix_byte(s[8], s[9], s[10], s[11]),
-        D::mix_byte(s[9], s[10], s[11], s[8]),
-        D::mix_byte(s[10], s[11], s[8], s[9]),
-        D::mix_byte(s[11], s[8], s[9], s[10]),
-        D::mix_byte(s[12], s[13], s[14], s[15]),
-        D::mix_byte(s[13], s[14], s[15], s[12]),
-        D::mix_byte(s[14], s[15], s[12], s[13]),
-        D::mix_byte(s[15], s[12], s[13], s[14]),
+        a[0], a[1], a[2], a[3], b[0], b[1], b[2], b[3], c[0], c[1], c[2], c[3], d[0], d[1], d[2],
+        d[3],
     ]
 }
 
-/// A round of Cipher: SubBytes, ShiftRows, MixColumns, AddRoundKey.
-#[tactic(auto, unfolding(crate::specs::State::mix_columns))]
+/// Eight bytes as a number.
+fn half(s: [u8; 16], at: usize) -> u64
+    requires { at ≤ 8 }
+    ensures { to_le_bytes w64 result ≡ part 8 at s }
+{
+    u64::from_le_bytes(part_of(&s, at))
+}
+
+/// AddRoundKey, by halves: so the compiler keeps a state in two registers from round to round.
+#[tactic(auto, using(crate::proofs::Words::by_halves))]
+fn add_round_key(s: [u8; 16], k: [u8; 16]) -> [u8; 16]
+    ensures { result ≡ add_round_key s k }
+{
+    let a = (half(s, 0) ^ half(k, 0)).to_le_bytes();
+    let b = (half(s, 8) ^ half(k, 8)).to_le_bytes();
+    [
+        a[0], a[1], a[2], a[3], a[4], a[5], a[6], a[7], b[0], b[1], b[2], b[3], b[4], b[5], b[6],
+        b[7],
+    ]
+}
+
+/// A round of Cipher: SubBytes, ShiftRows, MixColumns, AddRoundKey. SubBytes goes byte by byte, so it may come after ShiftRows.
+#[tactic(auto, using(crate::proofs::Words::shares_after_box))]
 pub fn round(s: [u8; 16], k: [u8; 16]) -> [u8; 16]
     ensures { result ≡ round_of s k }
 {
-    let shifted = turn_rows(sub_bytes::<Forward>(s), 1);
-    xored(mix_columns::<Forward>(shifted), k)
+    add_round_key(mix_columns::<Forward>(turn_rows(s, 1)), k)
 }
 
 /// The last round of Cipher, without MixColumns.
 pub fn last_round(s: [u8; 16], k: [u8; 16]) -> [u8; 16]
     ensures { result ≡ last_round s k }
 {
-    xored(turn_rows(sub_bytes::<Forward>(s), 1), k)
+    add_round_key(turn_rows(sub_bytes::<Forward>(s), 1), k)
 }
 
 /// A round of InvCipher: InvShiftRows, InvSubBytes, AddRoundKey, InvMixColumns.
@@ -72,12 +83,12 @@ pub fn last_round(s: [u8; 16], k: [u8; 16]) -> [u8; 16]
 pub fn inv_round(s: [u8; 16], k: [u8; 16]) -> [u8; 16]
     ensures { result ≡ inv_round s k }
 {
-    mix_columns::<Inverse>(xored(sub_bytes::<Inverse>(turn_rows(s, 3)), k))
+    mix_columns::<Inverse>(add_round_key(sub_bytes::<Inverse>(turn_rows(s, 3)), k))
 }
 
 /// The last round of InvCipher, without InvMixColumns.
 pub fn inv_last_round(s: [u8; 16], k: [u8; 16]) -> [u8; 16]
     ensures { result ≡ inv_last_round s k }
 {
-    xored(sub_bytes::<Inverse>(turn_rows(s, 3)), k)
+    add_round_key(sub_bytes::<Inverse>(turn_rows(s, 3)), k)
 }

@@ -1,14 +1,9 @@
-use Rattle.std.proofs.Common.{◌≡◌, [], ◌∷◌, length, sym, ap, ◌∙◌, rules}
-use Rattle.round.specs.State.{columns}
-use Rattle.round.proofs.Sixteen.{sixteen}
+use Rattle.std.proofs.Common.{◌≡◌, length, rules}
+use Rattle.round.proofs.Words.{four_columns}
 use Rattle.round.proofs.mix_columns.Goals as goal
 
 pub returns : goal.returns
 returns g c =
     let long : length c.args.s ≡ 16 = search rules in
-    (λ i.
-    c.mix_byte.ensures i ∷ c.mix_byte-2.ensures i ∷ c.mix_byte-3.ensures i ∷ c.mix_byte-4.ensures i ∷
-    c.mix_byte-5.ensures i ∷ c.mix_byte-6.ensures i ∷ c.mix_byte-7.ensures i ∷ c.mix_byte-8.ensures i ∷
-    c.mix_byte-9.ensures i ∷ c.mix_byte-10.ensures i ∷ c.mix_byte-11.ensures i ∷ c.mix_byte-12.ensures i ∷
-    c.mix_byte-13.ensures i ∷ c.mix_byte-14.ensures i ∷ c.mix_byte-15.ensures i ∷ c.mix_byte-16.ensures i ∷ [])
-    ∙ sym (ap (columns g.D.Direction.mixed) (sixteen c.args.s long))
+    four_columns g.D.Direction.share c.args.s c.mix_column-a.result c.mix_column-b.result c.mix_column-c.result c.mix_column-d.result long
+    c.mix_column-a.ensures c.mix_column-b.ensures c.mix_column-c.ensures c.mix_column-d.ensures
