@@ -1,5 +1,5 @@
 -- Decoding, one pair of digits more at a time.
-use Rattle.std.proofs.Common.{◌≡◌, ℕ, zero, suc, ◌+◌, ◌*◌, ◌<◌, ◌≤◌, ◌%◌, List, [], ◌∷◌, ◌++◌, length, get_or, drop, Some, None, Option, sym, refl, ap, ◌∙◌, append_assoc, append-nil, arith}
+use Rattle.std.proofs.Common.{◌≡◌, ℕ, zero, suc, ◌+◌, ◌*◌, ◌<◌, ◌≤◌, List, [], ◌∷◌, ◌++◌, length, get_or, drop, Some, None, Option, sym, refl, ap, ◌∙◌, append_assoc, append-nil, arith}
 use Rattle.std.specs.Simd.{first_chunks}
 use Rattle.std.proofs.lemmas.List.{at_drop_more, at_drop_all}
 use Rattle.hex_text.specs.Digits.{pair_value, before, decoded}
@@ -45,12 +45,3 @@ module _ (text xs : List ℕ) (pairs : List (List ℕ)) (i : ℕ) (so_far : afte
   pub after_all : length pairs ≤ i → decoded text ≡ Some xs
   unfolding after
   after_all h = sym so_far ∙ ap (after xs) (at_drop_all pairs_say pairs i h) ∙ ap Some (append-nil xs)
-
-pub odd : (text : List ℕ) → (length text % 2 ≡ 0 → ⊥) → decoded text ≡ None
-odd [] n = absurd (n refl)
-odd (c ∷ []) n = refl
-odd (c ∷ d ∷ s) n = ap (before (pair_value c d)) (odd s (λ e. n (omega arith))) ∙ none (pair_value c d)
-  where
-    none : (p : Option ℕ) → before p None ≡ None
-    none None = refl
-    none (Some b) = refl

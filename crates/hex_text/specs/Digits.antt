@@ -1,5 +1,5 @@
 -- Bytes written in hexadecimal, two digits to a byte, the high one first.
-use Rattle.std.specs.Prelude.{◌≡◌, ℕ, ◌+◌, ◌-◌, ◌*◌, Bool, cond, ◌&&◌, List, [], ◌∷◌, Some, None, Option, nat_le}
+use Rattle.std.specs.Prelude.{◌≡◌, ℕ, ◌+◌, ◌-◌, ◌*◌, ◌%◌, Bool, cond, ◌&&◌, List, [], ◌∷◌, length, Some, None, Option, nat_le}
 use Rattle.hex_text.specs.declared.HexFault.{HexFault}
 use Rattle.hex_text.specs.declared.HexFault.TheVariants.{OddCount, NotADigit, NoMemory}
 
@@ -35,8 +35,8 @@ decoded [] = Some []
 decoded (c ∷ []) = None
 decoded (c ∷ d ∷ s) = before (pair_value c d) (decoded s)
 
--- what a refusal to decode says of the text; want of memory says nothing of it
+-- what a refusal to decode says of the text: an odd count comes first; want of memory says nothing of it
 abbrev pub Declined : HexFault → List ℕ → Type 0
-Declined OddCount text = decoded text ≡ None
-Declined NotADigit text = decoded text ≡ None
+Declined OddCount text = length text % 2 ≡ 1
+Declined NotADigit text = (length text % 2 ≡ 0) × (decoded text ≡ None)
 Declined NoMemory text = Unit {0}

@@ -1,11 +1,8 @@
 use Rattle.std.proofs.Common.{◌≡◌, ◌+◌, ◌*◌, ◌/◌, length, drop, vec_items, Some, None, sym, ap, ◌∙◌, arith}
 use Rattle.std.proofs.lemmas.Bool.Decides.{nat_tests}
 use Rattle.std.proofs.lemmas.Result.{err_from_is_err_and}
-use Rattle.hex_text.proofs.Decoding.{after, after_none, after_more, after_all, stopped, odd, pairs_say, in_pairs}
+use Rattle.hex_text.proofs.Decoding.{after, after_none, after_more, after_all, stopped, pairs_say, in_pairs}
 use Rattle.hex_text.proofs.decode.Goals as goal
-
-pub returns-then-not-is_empty : goal.returns-then-not-is_empty
-returns-then-not-is_empty c = odd c.args.text.now (λ even. grind (arith, nat_tests))
 
 pub loop-high-init : goal.loop-high-init
 loop-high-init c =
@@ -20,7 +17,7 @@ returns-in_err-byte c =
     let none : c.pair.result ≡ None = grind arith in
     let e = stopped c.args.text.now (vec_items c.loop-high.out) c.as_chunks.result.0.now c.loop-high.high-index c.loop-high.invariant c.loop-high-test.true (sym none ∙ c.pair.ensures) in
     let p = err_from_is_err_and c.from_residual.result c.from_residual.ensures.1 in
-    rw (p.1, p.2) (grind arith)
+    rw (p.1, p.2) (grind (arith, nat_tests))
 
 pub loop-high-preserved : goal.loop-high-preserved
 loop-high-preserved c =
