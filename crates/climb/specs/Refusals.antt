@@ -1,5 +1,5 @@
 -- The refusals of reading a file: the number of each, and the values that are told with it.
-use Rattle.std.specs.Prelude.{ℕ, cond, [], ◌∷◌, ◌++◌, Some, None, Ok, Err, Option, Result, ◌==◌}
+use Rattle.std.specs.Prelude.{ℕ, [], ◌∷◌, ◌++◌, Some, None, Ok, Err, Option, Result}
 use Rattle.refusal.specs.Refusals.{Refusal, Verdict, no}
 use Rattle.layout.specs.Refusals as files
 use Rattle.climb.specs.declared.fault.ReadFault.{ReadFault}
@@ -9,10 +9,10 @@ use Rattle.climb.specs.declared.fault.DatedFault.{DatedFault}
 abbrev pub dated : DatedFault → ReadFault
 dated f = File f.epoch f.fault
 
--- bytes that do not open tell the file's epoch too, behind the wrap's index; any other refusal of a file tells what it told
+-- the file's epoch is told last, where there is one: behind the wrap's index of bytes that do not open, and not behind the place of a fault
 abbrev pub with_epoch : Option ℕ → Refusal → Refusal
 with_epoch None r = r
-with_epoch (Some epoch) r = no r.number (cond (r.number == 18) (r.values ++ (epoch ∷ [])) r.values)
+with_epoch (Some epoch) r = no r.number (r.values ++ (epoch ∷ []))
 
 abbrev pub refusal_of : ReadFault → Refusal
 refusal_of ShortWorking = no 9 []

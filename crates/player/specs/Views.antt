@@ -13,11 +13,15 @@ use Rattle.player.specs.Refusals.{enrol_refusal}
 abbrev pub numbers : Waiting → Scanner
 numbers p = scanner p.serial p.leaf p.epoch
 
+-- and of a seated one
+abbrev pub numbers_seated : Seated → Scanner
+numbers_seated p = scanner p.serial p.leaf p.epoch
+
 abbrev pub is_waiting : Waiting → Player
 is_waiting p = waiting (numbers p)
 
 abbrev pub is_seated : Seated → Player
-is_seated p = seated (scanner p.serial p.leaf p.epoch)
+is_seated p = seated (numbers_seated p)
 
 abbrev pub is_wiped : Wiped → Player
 is_wiped p = wiped p.serial

@@ -5,6 +5,7 @@ ghost use Rattle.std.specs.Prelude.{◌≡◌};
 
 mod card;
 mod fault;
+mod numbers;
 mod players;
 mod read;
 mod rings;
@@ -14,6 +15,7 @@ mod waiting;
 pub use card::{CARD_BYTES, enrol};
 pub use climb::ReadFault;
 pub use fault::{EnrolFault, RingFault};
+pub use numbers::Numbers;
 pub use players::{Refused, Seated, Waiting, Wiped};
 pub use ring::RING_BYTES;
 
