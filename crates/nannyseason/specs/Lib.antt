@@ -1,0 +1,4 @@
+pub mod Answers
+pub mod Wraps
+pub mod Players
+pub mod Views
