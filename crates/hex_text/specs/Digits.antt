@@ -1,5 +1,6 @@
 -- Bytes written in hexadecimal, two digits to a byte, the high one first.
-use Rattle.std.specs.Prelude.{◌≡◌, ℕ, ◌+◌, ◌-◌, ◌*◌, ◌%◌, Bool, cond, ◌&&◌, List, [], ◌∷◌, length, Some, None, Option, nat_le}
+use Rattle.std.specs.Prelude.{◌≡◌, ℕ, ◌+◌, ◌-◌, ◌*◌, ◌/◌, ◌%◌, Bool, false, cond, ◌&&◌, List, [], ◌∷◌, ◌++◌, length, Some, None, Option, nat_le}
+use Rattle.std.specs.Fmt.{digit_glyph}
 use Rattle.hex_text.specs.declared.HexFault.{HexFault}
 use Rattle.hex_text.specs.declared.HexFault.TheVariants.{OddCount, NotADigit, NoMemory}
 
@@ -40,3 +41,11 @@ abbrev pub Declined : HexFault → List ℕ → Type 0
 Declined OddCount text = length text % 2 ≡ 1
 Declined NotADigit text = (length text % 2 ≡ 0) × (decoded text ≡ None)
 Declined NoMemory text = Unit {0}
+
+-- a byte as two digits, in lower case
+abbrev pub two_digits : ℕ → List ℕ
+two_digits b = digit_glyph false (b / 16) ∷ digit_glyph false (b % 16) ∷ []
+
+abbrev pub shown : List ℕ → List ℕ
+shown [] = []
+shown (b ∷ s) = two_digits b ++ shown s

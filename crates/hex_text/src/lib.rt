@@ -3,7 +3,7 @@
 
 ghost use Rattle.std.specs.Prelude.{◌≡◌, ◌<◌, IfSome, Some, MatchResult};
 ghost use Rattle.hex_text.specs.declared.HexFault.TheVariants.{NoMemory};
-ghost use Rattle.hex_text.specs.Digits.{digit_value, pair_value, decoded, Declined};
+ghost use Rattle.hex_text.specs.Digits.{digit_value, pair_value, decoded, Declined, two_digits, shown};
 
 use std::alloc::{AllocFailed, Global};
 use std::fmt;
@@ -67,14 +67,29 @@ pub fn decode(heap: Global, text: &[u8]) -> Result<Vec<u8>, HexFault>
     Ok(out)
 }
 
+// Shows a byte as two digits.
+#[derive(Clone, Copy)]
+struct TwoDigits(u8);
+
+impl fmt::Display for TwoDigits {
+    ghost output = { λ b. Some (two_digits b.0) };
+
+    fn fmt<W: fmt::Write>(&self, f: &mut fmt::Formatter<W>) -> fmt::Result {
+        let byte = self.0;
+        write!(f, "{byte:02x}")
+    }
+}
+
 /// Shows bytes as two digits each.
 #[derive(Clone, Copy)]
 pub struct Hex<'a>(pub &'a [u8]);
 
 impl fmt::Display for Hex<'_> {
+    ghost output = { λ h. Some (shown h.0.now) };
+
     fn fmt<W: fmt::Write>(&self, f: &mut fmt::Formatter<W>) -> fmt::Result {
         for byte in self.0 {
-            write!(f, "{byte:02x}")?;
+            f.write(TwoDigits(*byte))?;
         }
         Ok(())
     }
