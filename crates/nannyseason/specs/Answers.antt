@@ -12,12 +12,15 @@ use Rattle.player.specs.declared.fault.EnrolFault.{EnrolFault}
 use Rattle.player.specs.declared.fault.RingFault.{RingFault}
 use Rattle.nannyseason.specs.declared.answer.Answer.{Answer}
 
+-- an answer by its parts
 abbrev pub answer : ℕ → ℕ → ℕ → Answer
 answer refusal first second = record { refusal = refusal; first = first; second = second }
 
+-- the answer that tells a refusal
 abbrev pub refusing : Refusal → Answer
 refusing r = answer r.number (get_or r.values 0 0) (get_or r.values 1 0)
 
+-- the answer that tells a verdict
 abbrev pub says : {A : Type 0} → Verdict A → Answer
 says (Ok a) = answer 0 0 0
 says (Err r) = refusing r
@@ -26,6 +29,7 @@ says (Err r) = refusing r
 abbrev pub misuse : {A : Type 0} → Verdict A
 misuse = refused 64 []
 
+-- the answers that tell the faults of each inner call
 abbrev pub of_wrap : WrapFault → Answer
 of_wrap f = refusing (wraps.refusal_of f)
 

@@ -28,14 +28,18 @@ abbrev pub known_leaves : Option KeyWrap → Bool → (KeyWrap → List ℕ) →
 known_leaves None b left old = old
 known_leaves (Some w) b left old = cond b (left w) old
 
+-- what a sealing tells
 abbrev pub seal_told : Option KeyWrap → List ℕ → List ℕ → List ℕ → List ℕ → List ℕ → Verdict (Unit {0})
 seal_told w key name content out work = if_known w (fit key name content) (λ v. seal_verdict v.length out work)
 
+-- the buffer after it
 abbrev pub seal_left : Option KeyWrap → List ℕ → List ℕ → List ℕ → List ℕ → List ℕ → List ℕ
 seal_left w key name content out work = known_leaves w (fit key name content) (λ v. seal_leaves v.length (v.seals key name content) out work) out
 
+-- what an opening tells
 abbrev pub open_told : Option KeyWrap → List ℕ → List ℕ → List ℕ → List ℕ → List ℕ → Verdict (Unit {0})
 open_told w key name bytes place work = if_known w (fit key name place) (λ v. open_verdict v.length bytes (v.opens key name bytes) work)
 
+-- the place after it
 abbrev pub open_left : Option KeyWrap → List ℕ → List ℕ → List ℕ → List ℕ → List ℕ → List ℕ
 open_left w key name bytes place work = known_leaves w (fit key name place) (λ v. open_leaves v.length bytes (v.opens key name bytes) place work) place
