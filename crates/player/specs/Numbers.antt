@@ -15,13 +15,16 @@ plain n = scanner n.serial n.leaf n.epoch
 abbrev pub is_scanner : Scanner → Bool
 is_scanner s = between 1 9999 s.serial && (between 128 255 s.leaf && between 1 1000000 s.epoch)
 
+-- these numbers, if a player can have them
 abbrev pub if_scanner : Scanner → Option Scanner
 if_scanner s = cond (is_scanner s) (Some s) None
 
+-- the numbers of a waiting player that may be there
 abbrev pub some_numbers : Option Waiting → Option Scanner
 some_numbers (Some p) = Some (numbers p)
 some_numbers None = None
 
+-- and of a seated one
 abbrev pub some_seated : Option Seated → Option Scanner
 some_seated (Some p) = Some (numbers_seated p)
 some_seated None = None
