@@ -46,6 +46,7 @@ Declined NoMemory text = Unit {0}
 abbrev pub two_digits : ℕ → List ℕ
 two_digits b = digit_glyph false (b / 16) ∷ digit_glyph false (b % 16) ∷ []
 
+-- bytes as two digits each
 abbrev pub shown : List ℕ → List ℕ
 shown [] = []
 shown (b ∷ s) = two_digits b ++ shown s
