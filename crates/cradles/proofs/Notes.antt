@@ -9,7 +9,7 @@ use Rattle.cradles.specs.declared.Cradle.TheVariants.{Empty, Stays, Arrives, Dep
 use Rattle.cradles.specs.Cradles.{code_of, seated, awaited, holder, departs, with_arrival, with_departure, without_notes, carried_out}
 
 -- two things that are the same of each kind of cradle
-same_of : {A : Type 0} (f g : Cradle → A) → f Empty ≡ g Empty → ((x : ℕ) → f (Stays x) ≡ g (Stays x)) → ((x : ℕ) → f (Arrives x) ≡ g (Arrives x)) →
+pub same_of : {A : Type 0} (f g : Cradle → A) → f Empty ≡ g Empty → ((x : ℕ) → f (Stays x) ≡ g (Stays x)) → ((x : ℕ) → f (Arrives x) ≡ g (Arrives x)) →
     ((x : ℕ) → f (Departs x) ≡ g (Departs x)) → ((x y : ℕ) → f (Swaps x y) ≡ g (Swaps x y)) → (k : Cradle) → f k ≡ g k
 same_of f g e s a d w Empty = e
 same_of f g e s a d w (Stays x) = s x

@@ -1,20 +1,15 @@
 -- The card of a seat: what the card call writes, and that enrolling with it is accepted.
 use Rattle.std.proofs.Common.{◌≡◌, ℕ, ◌+◌, ◌-◌, ◌≤◌, inl, inr, is_err, ap₂, Bool, true, not, cond, List, [], ◌∷◌, ◌++◌, length, drop, min, Some, None, Ok, Option, get_or, leb, ltb, eqb, replicate, refl, sym, ap, ◌∙◌, arith, ap₂}
 use Rattle.std.proofs.lemmas.Bool.{and_parts, and_from, leb-true, le-leb, eq-eqb, le-ltb, lt-ltb, cases_lt, true≢false}
-use Rattle.std.proofs.lemmas.List.Quantifiers.{position-Some}
 use Rattle.std.proofs.lemmas.List.{take_all}
 use Rattle.rekey.specs.Layout.{between}
-use Rattle.cradles.specs.declared.Cradle.{Cradle}
 use Rattle.byte_strings.specs.Strings.{part}
 use Rattle.byte_strings.specs.Numbers.{big4, number2, number4}
 use Rattle.refusal.specs.Refusals.{Verdict, refused, if_done}
 use Rattle.rekey.proofs.Places.{big2_back, big4_back, number4_at}
-use Rattle.cradles.specs.declared.Cradle.TheVariants.{Empty}
-use Rattle.std.specs.Prelude.{position}
 use Rattle.cradles.specs.Cradles.{seated}
 use Rattle.group.specs.declared.state.State.{State}
-use Rattle.group.proofs.Positions.{none_passes}
-use Rattle.group.specs.States.{cradle, leaf_of, is_it, seat_of}
+use Rattle.group.specs.States.{cradle, leaf_of, seat_of}
 use Rattle.group.specs.Notes.{is_serial}
 use Rattle.group.specs.Cards.{card_seated, card_verdict, card_bytes, card_over, card_leaves}
 use Rattle.group.specs.Sound.{Cradled, Sound}
@@ -22,28 +17,12 @@ use Rattle.scanner.specs.Rings.{entry_bytes}
 use Rattle.scanner.specs.Players.{Scanner, scanner, card_fault, faultless, enrol_verdict, enrol_leaves}
 use Rattle.runs.specs.Book.{Seat}
 use Rattle.runs.specs.Players.{card_of}
-use Rattle.runs.proofs.Kept.{it_is}
+use Rattle.runs.proofs.Found.{found_there}
 
 -- the cradle of a scanner is found
 module _ (s : State) (sound : Sound s) (c x : ℕ) (k : Cradled c) (sits : seated (cradle s c) ≡ Some x) where
   seat_found : seat_of x s ≡ Some (c - 1)
-  seat_found = go (seat_of x s) refl
-    where
-      test : Cradle → Bool
-      test d = is_it x (seated d)
-
-      it : test (cradle s c) ≡ true
-      it = ap (is_it x) sits ∙ eq-eqb x x refl
-
-      go : (o : Option ℕ) → position test s.cradles ≡ o → o ≡ Some (c - 1)
-      go None e = absurd (true≢false (sym it ∙ none_passes test s.cradles (c - 1) Empty e (omega (arith, sound.cradle_count))))
-      go (Some i) e =
-          let found = position-Some test s.cradles i Empty e in
-          let same : i + 1 - 1 ≡ i = omega arith in
-          let sits_there : seated (cradle s (i + 1)) ≡ Some x =
-          ap (λ n. seated (get_or s.cradles n Empty)) same ∙ it_is x (seated (get_or s.cradles i Empty)) found.1 in
-          let one : i + 1 ≡ c = sound.seats_apart (i + 1) c x (omega arith, omega (arith, found.0, sound.cradle_count)) k sits_there sits in
-          ap Some (omega arith)
+  seat_found = found_there s sound.cradle_count seated x (λ d e. sound.seats_apart d e x) c k sits
 
   module _ (buffer : List ℕ) (serial : is_serial x ≡ true) where
     by_seat : card_verdict s x buffer ≡ cond (ltb (length buffer) 39) (refused 12 (39 ∷ [])) (Ok tt)

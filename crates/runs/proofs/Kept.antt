@@ -1,9 +1,8 @@
 -- What every run keeps: the book agrees with the server, and what holds of seats, keys and links.
 use Rattle.std.proofs.Common.{◌≡◌, ℕ, zero, suc, ◌+◌, ◌-◌, ◌≤◌, Bool, true, false, cond, not, ◌⊎◌, List, [], ◌∷◌, ◌++◌, map, length, drop, get_or, set, replicate, Some, None, Ok, Option, is_err, leb, refl, sym, ap, ◌∙◌, subst, inl, inr, arith, get_or-set_same, get_or-set_other, ap₂}
 use Rattle.std.proofs.Math.ListN.{get_or-map}
-use Rattle.std.proofs.lemmas.Bool.{and_parts, eqb-true, leb-true, true≢false}
+use Rattle.std.proofs.lemmas.Bool.{and_parts, leb-true}
 use Rattle.std.proofs.lemmas.List.{length-map}
-use Rattle.std.proofs.lemmas.List.Quantifiers.{position-Some}
 use Rattle.refusal.specs.Refusals.{Verdict, refused, if_done}
 use Rattle.tree.specs.Plans.{In}
 use Rattle.keys.specs.Names.{Keys, named, unmade, held}
@@ -14,7 +13,7 @@ use Rattle.cradles.specs.declared.Cradle.TheVariants.{Empty}
 use Rattle.cradles.specs.Cradles.{code_of, seated, holder, departs, with_arrival, with_departure, without_notes, carried_out}
 use Rattle.group.specs.declared.state.State.{State}
 use Rattle.group.specs.declared.state.Published.{Published}
-use Rattle.group.specs.States.{cradle, row, is_it, seat_of, held_by, noted}
+use Rattle.group.specs.States.{cradle, row, seat_of, held_by, noted}
 use Rattle.group.specs.Calls.{Call, admit, remove, drop_notes, publish, card, Publishing, Given}
 use Rattle.group.specs.Notes.{is_serial, is_cradle, admit_free, remove_seated}
 use Rattle.group.specs.Publishings.{plan_of, file_of, size_of, plan_verdict}
@@ -24,6 +23,7 @@ use Rattle.group.specs.Laws.{Renewal, StateLaws}
 use Rattle.group.proofs.Verdicts.{plan_passed}
 use Rattle.tree.specs.Tree.{falling}
 use Rattle.tree.proofs.Members.{map_in}
+use Rattle.runs.proofs.Accepting.{admit_leaves, remove_leaves, after_call}
 use Rattle.runs.proofs.Falling.{in_falling, falling_next}
 use Rattle.runs.specs.Book.{Seat, Arrival, Book, next_epoch, told}
 use Rattle.runs.specs.Runs.{Edition, group_key, edition, Site, called, run, AllGiven}
@@ -53,32 +53,12 @@ pub record Kept (w : Site) : Type 0 where
 pub epochs_past : (files : List Edition) (e : ℕ) → map (λ x. x.notice.epoch) files ≡ falling e → (x : Edition) → In x files → (1 ≤ x.notice.epoch) × (x.notice.epoch ≤ e)
 epochs_past files e order x i = in_falling e x.notice.epoch (subst (λ (l : List ℕ). In x.notice.epoch l) order (map_in (λ y. y.notice.epoch) files x i))
 
--- What admitting, removing and publishing leave, by their verdicts.
-
-abbrev pub admit_leaves : Site → ℕ → ℕ → Verdict (Unit {0}) → Site
-admit_leaves w x c v = record { server = if_done v (admitted w.server x c) w.server; book = told w.book (admit x c) (is_err v); files = w.files }
-
-abbrev pub remove_leaves : Site → ℕ → Option ℕ → Verdict (Unit {0}) → Site
-remove_leaves w x o v = record { server = if_done v (left_at w.server o) w.server; book = told w.book (remove x) (is_err v); files = w.files }
-
-abbrev pub publish_leaves : Site → Publishing → Verdict Published → Site
-publish_leaves w p v = record {
-  server = if_done v (published w.server p.material) w.server;
-  book = told w.book (publish p) (is_err v);
-  files = edition p.wrap p.material v (if_done v (written (file_of w.server p) ++ drop (size_of w.server p) p.file) p.file) ++ w.files;
-}
-
 -- only that cradle is another
-one_other : (s : State) (c : ℕ) (it : Cradle) → length s.cradles ≡ 128 → Cradled c → OneOther (cradle s) (cradle (with_cradle s c it)) c it
+pub one_other : (s : State) (c : ℕ) (it : Cradle) → length s.cradles ≡ 128 → Cradled c → OneOther (cradle s) (cradle (with_cradle s c it)) c it
 one_other s c it n k = record {
   here = get_or-set_same s.cradles (c - 1) it Empty (omega arith);
   elsewhere = λ d h other. get_or-set_other s.cradles (c - 1) (d - 1) it Empty (λ e. other (omega arith));
 }
-
--- whose test it passes
-pub it_is : (x : ℕ) (o : Option ℕ) → is_it x o ≡ true → o ≡ Some x
-it_is x None e = absurd (true≢false (sym e))
-it_is x (Some y) e = ap Some (eqb-true y x e)
 
 module _ (w : Site) (sound : Sound w.server) (old : Kept w) where
   kept_with : (cradles : List Cradle) (arrivals : List Arrival) (departures : List ℕ) →
@@ -95,56 +75,26 @@ module _ (w : Site) (sound : Sound w.server) (old : Kept w) where
     all_readable = old.all_readable;
   }
 
-  admit_keeps : (x c : ℕ) → Kept (called w (admit x c))
-  admit_keeps x c = go (is_serial x) (is_cradle c) (held_by x w.server) (holder (cradle w.server c)) refl refl refl
-    where
-      go : (a b : Bool) (h o : Option ℕ) → is_serial x ≡ a → is_cradle c ≡ b → holder (cradle w.server c) ≡ o →
-          Kept (admit_leaves w x c (cond (not a) (refused 1 []) (cond (not b) (refused 2 []) (admit_free h o))))
-      go false b h o i q e = old
-      go true false h o i q e = old
-      go true true (Some i) o j q e = old
-      go true true None (Some y) i q e = old
-      go true true None None i q e =
-          let p = and_parts (leb 1 c) (leb c 128) q in
-          let k : Cradled c = (leb-true 1 c p.0, leb-true c 128 p.1) in
-          kept_with (set w.server.cradles (c - 1) (with_arrival (cradle w.server c) x))
-          (record { serial = x; cradle = c } ∷ w.book.arrivals) w.book.departures
-          (λ a h. elim h [ inl same ↦ ap (λ y. is_serial y.serial) same ∙ i | inr more ↦ old.serials.of_arrivals a more ])
-          (admit_agrees (cradle w.server) (cradle (admitted w.server x c)) w.book old.agrees x c k e
-          (one_other w.server c (with_arrival (cradle w.server c) x) sound.cradle_count k))
+  admit_keeps : (x c : ℕ) → is_serial x ≡ true → Cradled c → holder (cradle w.server c) ≡ None → Kept (admit_leaves w x c (Ok tt))
+  admit_keeps x c i k e =
+      kept_with (set w.server.cradles (c - 1) (with_arrival (cradle w.server c) x))
+      (record { serial = x; cradle = c } ∷ w.book.arrivals) w.book.departures
+      (λ a h. elim h [ inl same ↦ ap (λ y. is_serial y.serial) same ∙ i | inr more ↦ old.serials.of_arrivals a more ])
+      (admit_agrees (cradle w.server) (cradle (admitted w.server x c)) w.book old.agrees x c k e
+      (one_other w.server c (with_arrival (cradle w.server c) x) sound.cradle_count k))
 
-  remove_keeps : (x : ℕ) → Kept (called w (remove x))
-  remove_keeps x = go (is_serial x) (seat_of x w.server) refl
-    where
-      seat : (i : ℕ) → seat_of x w.server ≡ Some i → (d : Bool) → Kept (remove_leaves w x (Some i) (cond d (refused 6 []) (Ok tt)))
-      seat i e true = old
-      seat i e false =
-          let found = position-Some (λ c. is_it x (seated c)) w.server.cradles i Empty e in
-          let k : Cradled (i + 1) = (omega arith, omega (arith, found.0, sound.cradle_count)) in
-          let same : i + 1 - 1 ≡ i = omega arith in
-          let is : seated (cradle w.server (i + 1)) ≡ Some x =
-          ap (λ n. seated (get_or w.server.cradles n Empty)) same ∙ it_is x (seated (get_or w.server.cradles i Empty)) found.1 in
-          kept_with (set w.server.cradles (i + 1 - 1) (with_departure (cradle w.server (i + 1)))) w.book.arrivals (x ∷ w.book.departures) old.serials.of_arrivals
-          (remove_agrees (cradle w.server) (cradle (left_at w.server (Some i))) w.book old.agrees x (i + 1) is
-          (λ d h s. sound.seats_apart d (i + 1) x h k s is)
-          (one_other w.server (i + 1) (with_departure (cradle w.server (i + 1))) sound.cradle_count k))
-
-      go : (a : Bool) (o : Option ℕ) → seat_of x w.server ≡ o → Kept (remove_leaves w x o (cond (not a) (refused 1 []) (remove_seated w.server o)))
-      go false o e = old
-      go true None e = old
-      go true (Some i) e = seat i e (departs (cradle w.server (i + 1)))
+  remove_keeps : (x i : ℕ) → Cradled (i + 1) → seated (cradle w.server (i + 1)) ≡ Some x → Kept (remove_leaves w x (Some i) (Ok tt))
+  remove_keeps x i k is =
+      kept_with (set w.server.cradles (i + 1 - 1) (with_departure (cradle w.server (i + 1))))
+      w.book.arrivals (x ∷ w.book.departures) old.serials.of_arrivals
+      (remove_agrees (cradle w.server) (cradle (left_at w.server (Some i))) w.book old.agrees x (i + 1) is
+      (λ d h s. sound.seats_apart d (i + 1) x h k s is)
+      (one_other w.server (i + 1) (with_departure (cradle w.server (i + 1))) sound.cradle_count k))
 
   drop_keeps : Kept (called w drop_notes)
   drop_keeps = kept_with (map without_notes w.server.cradles) [] [] (λ a h. absurd h)
       (drop_agrees (cradle w.server) (λ c. get_or (map without_notes w.server.cradles) (c - 1) Empty) w.book old.agrees
       (λ d h. get_or-map without_notes w.server.cradles (d - 1) Empty))
-
-  card_keeps : (x : ℕ) (buffer : List ℕ) → Kept (called w (card x buffer))
-  card_keeps x buffer = go (is_refused w.server (card x buffer))
-    where
-      go : (r : Bool) → Kept (record { server = w.server; book = told w.book (card x buffer) r; files = w.files })
-      go true = old
-      go false = old
 
 -- an accepted plan has something noted
 noted_of : (s : State) (p : Publishing) → plan_verdict s p ≡ Ok tt → noted s ≡ true
@@ -195,7 +145,7 @@ module _ (laws : StateLaws) (w : Site) (sound : Sound w.server) (old : Kept w) (
         (laws.noted_root s sound (noted_of s p ok)) (plan_passed s p ok).1.1
     newest x (inr i) e = absurd (omega (arith, e, (epochs_past w.files b.epoch old.in_order x i).1, old.same_epoch))
 
-    accepted : Kept (record { server = published s p.material; book = next_epoch b; files = new_edition s p ∷ w.files })
+    pub accepted : Kept (record { server = published s p.material; book = next_epoch b; files = new_edition s p ∷ w.files })
     accepted = record {
       same_epoch = ap (λ n. n + 1) old.same_epoch;
       agrees = publish_agrees (cradle s) (cradle (published s p.material)) b old.agrees (λ d k. get_or-map carried_out s.cradles (d - 1) Empty);
@@ -207,9 +157,6 @@ module _ (laws : StateLaws) (w : Site) (sound : Sound w.server) (old : Kept w) (
       all_readable = λ x i. elim i [ inl q ↦ rw q (readable laws s p given sound ok) | inr j ↦ old.all_readable x j ];
     }
 
-  publish_keeps : Kept (called w (publish p))
-  publish_keeps = accepted_or_refused s p (λ v. Kept (publish_leaves w p v)) accepted (λ f. old)
-
 -- at no number, also past the end
 none_made : (k n : ℕ) → (held (replicate k unmade) n).made ≡ 0
 none_made zero n = refl
@@ -218,11 +165,12 @@ none_made (suc k) (suc n) = none_made k n
 
 module _ (laws : StateLaws) where
   step : (w : Site) (c : Call) → Given c → Sound w.server → Kept w → Kept (called w c)
-  step w (admit x c) given sound old = admit_keeps w sound old x c
-  step w (remove x) given sound old = remove_keeps w sound old x
-  step w drop_notes given sound old = drop_keeps w sound old
-  step w (publish p) given sound old = publish_keeps laws w sound old p given
-  step w (card x buffer) given sound old = card_keeps w sound old x buffer
+  step w c given sound old = after_call Kept w sound (record {
+    admits = admit_keeps w sound old;
+    removes = remove_keeps w sound old;
+    drops = drop_keeps w sound old;
+    publishes = accepted laws w sound old;
+  }) old c given
 
   start : Kept (run [])
   start = record {

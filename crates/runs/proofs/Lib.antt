@@ -4,8 +4,10 @@ pub mod Renewals
 pub mod SteadyNext
 pub mod Falling
 pub mod RootKeys
+pub mod Found
 pub mod Agreement
 pub mod Editions
+pub mod Accepting
 pub mod Kept
 pub mod Cards
 pub mod Plays
@@ -14,3 +16,6 @@ pub mod Playing
 pub mod Courses
 pub mod EveryRun
 pub mod Servers
+pub mod Seated
+pub mod Answering
+pub mod Checked

@@ -19,7 +19,8 @@ use Rattle.runs.proofs.Editions.{accepted_or_refused}
 use Rattle.group.specs.Cards.{card_bytes}
 use Rattle.group.specs.Notes.{admit_verdict, remove_verdict}
 use Rattle.group.specs.States.{seat_of}
-use Rattle.runs.proofs.Kept.{Kept, admit_leaves, remove_leaves, publish_leaves, run_sound, run_kept}
+use Rattle.runs.proofs.Accepting.{admit_leaves, remove_leaves, publish_leaves}
+use Rattle.runs.proofs.Kept.{Kept, run_sound, run_kept}
 use Rattle.runs.proofs.Cards.{card_room, card_written}
 use Rattle.runs.proofs.Plays.{StayPlays}
 use Rattle.runs.proofs.PlaysNext.{plays_next}

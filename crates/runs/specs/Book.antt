@@ -67,6 +67,36 @@ abbrev pub told : Book → Call → Bool → Book
 told b c true = b
 told b c false = noted_in b c
 
+-- The book's own words for who is where.
+
+-- the scanner sits in that cradle
+abbrev pub IsSeated : Book → ℕ → ℕ → Type 0
+IsSeated b x c = (t : Seat) × (In t b.seats × ((t.serial ≡ x) × (t.cradle ≡ c)))
+
+-- it sits in some cradle
+abbrev pub IsSomewhere : Book → ℕ → Type 0
+IsSomewhere b x = (c : ℕ) × IsSeated b x c
+
+-- its arrival at that cradle is noted
+abbrev pub IsArriving : Book → ℕ → ℕ → Type 0
+IsArriving b x c = In (record { serial = x; cradle = c }) b.arrivals
+
+-- its departure is noted
+abbrev pub IsDeparting : Book → ℕ → Type 0
+IsDeparting b x = In x b.departures
+
+-- it holds that cradle: it sits there without a noted departure, or it is noted to arrive there
+abbrev pub IsHolder : Book → ℕ → ℕ → Type 0
+IsHolder b x c = (IsSeated b x c × (IsDeparting b x → ⊥)) ⊎ IsArriving b x c
+
+-- it holds no cradle
+abbrev pub IsOut : Book → ℕ → Type 0
+IsOut b x = (c : ℕ) → IsHolder b x c → ⊥
+
+-- nobody holds that cradle
+abbrev pub IsFree : Book → ℕ → Type 0
+IsFree b c = (x : ℕ) → IsHolder b x c → ⊥
+
 -- a stay is an ended one, or a seat, whose last epoch is the book's
 abbrev pub IsStay : Book → Stay → Type 0
 IsStay b s = (In s.seat b.seats × (s.last ≡ b.epoch)) ⊎ In s b.ended

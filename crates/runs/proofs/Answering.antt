@@ -1,0 +1,344 @@
+-- What admit, remove and a card call answer, in the book's own words.
+use Rattle.std.proofs.Common.{◌≡◌, ℕ, ◌+◌, ◌-◌, ◌<◌, ◌≤◌, ◌↔◌, Bool, true, false, cond, not, ◌&&◌, ◌⊎◌, List, [], ◌∷◌, length, Some, None, Ok, Err, Option, is_err, leb, ltb, eqb, refl, sym, ap, ap₂, ◌∙◌, subst, subst₂, inl, inr, arith}
+use Rattle.std.proofs.lemmas.Bool.{and_parts, and_from, leb-true, le-leb, lt-ltb, le-ltb, ltb-true, ltb-false, eq-eqb, eqb-true, true≢false, false_from_ne_true}
+use Rattle.std.proofs.lemmas.Option.{none-some, same_Some}
+use Rattle.refusal.specs.Refusals.{Verdict, refused}
+use Rattle.tree.specs.Tree.{some}
+use Rattle.tree.specs.Plans.{In}
+use Rattle.tree.proofs.Members.{some_from, some_who}
+use Rattle.cradles.specs.declared.Cradle.{Cradle}
+use Rattle.cradles.specs.declared.Cradle.TheVariants.{Empty, Stays, Arrives, Departs, Swaps}
+use Rattle.cradles.specs.Cradles.{seated, awaited, holder, departs}
+use Rattle.cradles.proofs.Notes
+use Rattle.group.specs.declared.state.State.{State}
+use Rattle.group.specs.States.{cradle, seat_of, held_by}
+use Rattle.group.specs.Notes.{is_serial, is_cradle, admit_free, admit_verdict, remove_seated, remove_verdict}
+use Rattle.group.specs.Cards.{card_seated, card_verdict}
+use Rattle.group.specs.Sound.{Cradled, Sound}
+use Rattle.runs.specs.Book.{Book, Seat, Arrival, IsSeated, IsSomewhere, IsArriving, IsDeparting, IsHolder, IsOut, IsFree}
+use Rattle.runs.specs.Runs.{Site}
+use Rattle.runs.specs.Answers.{IsSerial, SameCradles, AdmitAnswers, RemoveAnswers, CardAnswers}
+use Rattle.runs.proofs.Agreement.{Sits}
+use Rattle.runs.proofs.Found.{found_at, found_nowhere, found_there}
+use Rattle.runs.proofs.Kept.{Kept}
+use Rattle.runs.proofs.Seated.{WrittenIn}
+
+-- A test of a range says what its bounds say.
+
+in_range : (low high n : ℕ) → leb low n && leb n high ≡ true → (low ≤ n) × (n ≤ high)
+in_range low high n e = let p = and_parts (leb low n) (leb n high) e in (leb-true low n p.0, leb-true n high p.1)
+
+range_in : (low high n : ℕ) → (low ≤ n) × (n ≤ high) → leb low n && leb n high ≡ true
+range_in low high n r = and_from (leb low n) (leb n high) (le-leb low n r.0) (le-leb n high r.1)
+
+not_range : (low high n : ℕ) → ((low ≤ n) × (n ≤ high) → ⊥) → leb low n && leb n high ≡ false
+not_range low high n out = false_from_ne_true _ (λ e. out (in_range low high n e))
+
+-- two refusals with different numbers are different, and no refusal is an acceptance
+numbers_apart : {A : Type 0} (m n : ℕ) {ms ns : List ℕ} → (m ≡ n → ⊥) → refused {A = A} m ms ≡ refused n ns → ⊥
+numbers_apart {A} m n other e = other (ap number e)
+  where
+    number : Verdict A → ℕ
+    number (Ok a) = 0
+    number (Err f) = f.number
+
+ok_apart : (n : ℕ) {ns : List ℕ} → Ok tt ≡ refused {A = Unit {0}} n ns → ⊥
+ok_apart n e = true≢false (ap is_err (sym e))
+
+-- One check that refuses with a number.
+
+module _ (n : ℕ) (ns : List ℕ) where
+  abbrev checks : Bool → Verdict (Unit {0})
+  checks fails = cond fails (refused n ns) (Ok tt)
+
+  failed : (d : Bool) → checks d ≡ refused n ns → d ≡ true
+  failed true e = refl
+  failed false e = absurd (ok_apart n e)
+
+  passed : (d : Bool) → checks d ≡ Ok tt → d ≡ false
+  passed true e = absurd (ok_apart n (sym e))
+  passed false e = refl
+
+  no_other : (m : ℕ) {ms : List ℕ} → (n ≡ m → ⊥) → (d : Bool) → checks d ≡ refused m ms → ⊥
+  no_other m other true e = numbers_apart n m other e
+  no_other m other false e = ok_apart m e
+
+-- who holds a cradle is in it and does not depart, or is awaited
+holder_from : (k : Cradle) (x : ℕ) → holder k ≡ Some x → ((seated k ≡ Some x) × (departs k ≡ false)) ⊎ (awaited k ≡ Some x)
+holder_from Empty x e = absurd (none-some x e)
+holder_from (Stays y) x e = inl (e, refl)
+holder_from (Arrives y) x e = inr e
+holder_from (Departs y) x e = absurd (none-some x e)
+holder_from (Swaps y z) x e = inr e
+
+module _ (w : Site) (sound : Sound w.server) (kept : Kept w) (written : WrittenIn w) where
+  abbrev s : State
+  s = w.server
+
+  abbrev b : Book
+  b = w.book
+
+  -- a departure that is noted of a serial is in the list, and the other way round
+  listed : (x : ℕ) → IsDeparting b x → some (λ y. eqb y x) b.departures ≡ true
+  listed x i = some_from (λ y. eqb y x) b.departures x i (eq-eqb x x refl)
+
+  of_list : (x : ℕ) → some (λ y. eqb y x) b.departures ≡ true → IsDeparting b x
+  of_list x e = let r = some_who (λ y. eqb y x) b.departures e in subst (λ (y : ℕ). In y b.departures) (eqb-true r.0 x r.1.1) r.1.0
+
+  -- who sits in the book
+  seat_there : (x c : ℕ) → IsSeated b x c → Cradled c × (seated (cradle s c) ≡ Some x)
+  seat_there x c t = let a = kept.agrees.sit t.0 t.1.0 in
+      subst₂ (λ (y d : ℕ). Cradled d × (seated (cradle s d) ≡ Some y)) t.1.1.0 t.1.1.1 (a.cradled, a.sits)
+
+  departs_there : (x c : ℕ) → IsSeated b x c → some (λ y. eqb y x) b.departures ≡ departs (cradle s c)
+  departs_there x c t = let a = kept.agrees.sit t.0 t.1.0 in
+      subst₂ (λ (y d : ℕ). some (λ z. eqb z y) b.departures ≡ departs (cradle s d)) t.1.1.0 t.1.1.1 a.leaves
+
+  serial_there : (x c : ℕ) → IsSeated b x c → is_serial x ≡ true
+  serial_there x c t = subst (λ (y : ℕ). is_serial y ≡ true) t.1.1.0 (kept.serials.of_seats t.0 t.1.0)
+
+  arrival_there : (x c : ℕ) → IsArriving b x c → Cradled c × (awaited (cradle s c) ≡ Some x)
+  arrival_there x c i = let a = kept.agrees.come (record { serial = x; cradle = c }) i in (a.cradled, a.comes)
+
+  pub same_cradles : SameCradles w
+  same_cradles = record {
+    seats = λ x c. (λ h. written.seat c x h.0 h.1, seat_there x c);
+    arrivals = λ x c. (λ h. written.arrival c x h.0 h.1, arrival_there x c);
+    departures = λ x c. (
+      λ h. let t = written.seat c x h.0.0 h.0.1 in (t, of_list x (departs_there x c t ∙ h.1)),
+      λ h. (seat_there x c h.0, sym (departs_there x c h.0) ∙ listed x h.1),
+    );
+    departing = written.departing;
+  }
+
+  -- who holds a cradle in the book holds it at the server, and the other way round
+  holds_there : (x c : ℕ) → IsHolder b x c → Cradled c × (holder (cradle s c) ≡ Some x)
+  holds_there x c (inl (t, stays)) =
+      let h = seat_there x c t in
+      let on : departs (cradle s c) ≡ false = sym (departs_there x c t) ∙ false_from_ne_true _ (λ e. stays (of_list x e)) in
+      (h.0, (Notes.stays_on (cradle s c) x h.1 on).0)
+  holds_there x c (inr a) = let h = arrival_there x c a in (h.0, Notes.awaited_holds (cradle s c) x h.1)
+
+  holder_there : (x c : ℕ) → Cradled c → holder (cradle s c) ≡ Some x → IsHolder b x c
+  holder_there x c k e = elim (holder_from (cradle s c) x e) [
+    | inl h ↦ let t = written.seat c x k h.0 in inl (t, λ d. true≢false (sym (listed x d) ∙ departs_there x c t ∙ h.1))
+    | inr h ↦ inr (written.arrival c x k h)
+  ]
+
+  -- The search for a serial.
+
+  out_none : (x : ℕ) → IsOut b x → held_by x s ≡ None
+  out_none x out = go (held_by x s) refl
+    where
+      go : (o : Option ℕ) → held_by x s ≡ o → o ≡ None
+      go None e = refl
+      go (Some i) e = let h = found_at s sound.cradle_count holder x i e in absurd (out (i + 1) (holder_there x (i + 1) h.0 h.1))
+
+  none_out : (x : ℕ) → held_by x s ≡ None → IsOut b x
+  none_out x e c h = let t = holds_there x c h in found_nowhere s sound.cradle_count holder x e c t.0 t.1
+
+  held_there : (x c : ℕ) → IsHolder b x c → held_by x s ≡ Some (c - 1)
+  held_there x c h = let t = holds_there x c h in found_there s sound.cradle_count holder x (λ d e. sound.holders_apart d e x) c t.0 t.1
+
+  free_none : (c : ℕ) → Cradled c → IsFree b c → holder (cradle s c) ≡ None
+  free_none c k free = go (holder (cradle s c)) refl
+    where
+      go : (o : Option ℕ) → holder (cradle s c) ≡ o → o ≡ None
+      go None e = refl
+      go (Some x) e = absurd (free x (holder_there x c k e))
+
+  none_free : (c : ℕ) → holder (cradle s c) ≡ None → IsFree b c
+  none_free c e x h = none-some x (sym e ∙ (holds_there x c h).1)
+
+  sits_found : (x c : ℕ) → IsSeated b x c → seat_of x s ≡ Some (c - 1)
+  sits_found x c t = let h = seat_there x c t in found_there s sound.cradle_count seated x (λ d e. sound.seats_apart d e x) c h.0 h.1
+
+  nowhere_none : (x : ℕ) → (IsSomewhere b x → ⊥) → seat_of x s ≡ None
+  nowhere_none x nowhere = go (seat_of x s) refl
+    where
+      go : (o : Option ℕ) → seat_of x s ≡ o → o ≡ None
+      go None e = refl
+      go (Some i) e = let h = found_at s sound.cradle_count seated x i e in absurd (nowhere (i + 1, written.seat (i + 1) x h.0 h.1))
+
+  -- Admit.
+
+  module _ (x c : ℕ) where
+    -- the verdict by what its checks find
+    abbrev admits : Bool → Bool → Option ℕ → Option ℕ → Verdict (Unit {0})
+    admits a k h o = cond (not a) (refused 1 []) (cond (not k) (refused 2 []) (admit_free h o))
+
+    -- and what they found
+    data Admits : Verdict (Unit {0}) → Type 0 where
+      no_serial : (IsSerial x → ⊥) → Admits (refused 1 [])
+      no_cradle : IsSerial x → (Cradled c → ⊥) → Admits (refused 2 [])
+      serial_held : (d : ℕ) → IsSerial x → Cradled c → IsHolder b x d → Admits (refused 3 (d ∷ []))
+      cradle_held : (y : ℕ) → IsSerial x → Cradled c → IsOut b x → IsHolder b y c → Admits (refused 4 (y ∷ []))
+      accepted : IsSerial x → Cradled c → IsOut b x → IsFree b c → Admits (Ok tt)
+
+    admitted : Admits (admit_verdict s x c)
+    admitted = go (is_serial x) (is_cradle c) (held_by x s) (holder (cradle s c)) refl refl refl refl
+      where
+        go : (a k : Bool) (h o : Option ℕ) → is_serial x ≡ a → is_cradle c ≡ k → held_by x s ≡ h → holder (cradle s c) ≡ o → Admits (admits a k h o)
+        go false k h o p q e f = no_serial (λ r. true≢false (sym (range_in 1 9999 x r) ∙ p))
+        go true false h o p q e f = no_cradle (in_range 1 9999 x p) (λ r. true≢false (sym (range_in 1 128 c r) ∙ q))
+        go true true (Some i) o p q e f = let h = found_at s sound.cradle_count holder x i e in
+            serial_held (i + 1) (in_range 1 9999 x p) (in_range 1 128 c q) (holder_there x (i + 1) h.0 h.1)
+        go true true None (Some y) p q e f = let k = in_range 1 128 c q in
+            cradle_held y (in_range 1 9999 x p) k (none_out x e) (holder_there y c k f)
+        go true true None None p q e f = accepted (in_range 1 9999 x p) (in_range 1 128 c q) (none_out x e) (none_free c f)
+
+    is_admits : (a k : Bool) (h o : Option ℕ) → is_serial x ≡ a → is_cradle c ≡ k → held_by x s ≡ h → holder (cradle s c) ≡ o →
+        admit_verdict s x c ≡ admits a k h o
+    is_admits a k h o p q e f = ap₂ (λ (m n : Bool). admits m n (held_by x s) (holder (cradle s c))) p q ∙ ap₂ (λ (m n : Option ℕ). admits a k m n) e f
+
+    first : Admits (refused 1 []) → IsSerial x → ⊥
+    first (no_serial n) = n
+
+    second : Admits (refused 2 []) → IsSerial x × (Cradled c → ⊥)
+    second (no_cradle p n) = (p, n)
+
+    third : (d : ℕ) → Admits (refused 3 (d ∷ [])) → IsSerial x × (Cradled c × IsHolder b x d)
+    third d (serial_held _ p k h) = (p, (k, h))
+
+    fourth : (y : ℕ) → Admits (refused 4 (y ∷ [])) → IsSerial x × (Cradled c × (IsOut b x × IsHolder b y c))
+    fourth y (cradle_held _ p k n h) = (p, (k, (n, h)))
+
+    done : Admits (Ok tt) → IsSerial x × (Cradled c × (IsOut b x × IsFree b c))
+    done (accepted p k n f) = (p, (k, (n, f)))
+
+    pub admit_answers : AdmitAnswers w x c
+    admit_answers = record {
+      no_serial = (λ e. first (subst Admits e admitted), λ n. is_admits false _ _ _ (not_range 1 9999 x n) refl refl refl);
+      no_cradle = (λ e. second (subst Admits e admitted), λ r. is_admits true false _ _ (range_in 1 9999 x r.0) (not_range 1 128 c r.1) refl refl);
+      serial_held = λ d. (
+        λ e. third d (subst Admits e admitted),
+        λ r. is_admits true true (Some (d - 1)) _ (range_in 1 9999 x r.0) (range_in 1 128 c r.1.0) (held_there x d r.1.1) refl
+            ∙ ap (λ n. refused 3 (n ∷ [])) (let k = (holds_there x d r.1.1).0 in omega (arith, k.0)),
+      );
+      cradle_held = λ y. (
+        λ e. fourth y (subst Admits e admitted),
+        λ r. is_admits true true None (Some y) (range_in 1 9999 x r.0) (range_in 1 128 c r.1.0) (out_none x r.1.1.0) (holds_there y c r.1.1.1).1,
+      );
+      accepted = (
+        λ e. done (subst Admits e admitted),
+        λ r. is_admits true true None None (range_in 1 9999 x r.0) (range_in 1 128 c r.1.0) (out_none x r.1.1.0) (free_none c r.1.0 r.1.1.1),
+      );
+    }
+
+  -- Remove, and a card call: both look for the seat.
+
+  module _ (x : ℕ) where
+    -- what the search finds: no serial, one that sits nowhere, or its cradle
+    data Looks : Bool → Option ℕ → Type 0 where
+      out : {o : Option ℕ} → (IsSerial x → ⊥) → Looks false o
+      nowhere : IsSerial x → (IsSomewhere b x → ⊥) → Looks true None
+      sits : (c : ℕ) → IsSeated b x (c + 1) → Looks true (Some c)
+
+    looked : Looks (is_serial x) (seat_of x s)
+    looked = go (is_serial x) (seat_of x s) refl refl
+      where
+        go : (a : Bool) (o : Option ℕ) → is_serial x ≡ a → seat_of x s ≡ o → Looks a o
+        go false o p e = out (λ r. true≢false (sym (range_in 1 9999 x r) ∙ p))
+        go true None p e = nowhere (in_range 1 9999 x p)
+            (λ t. let h = seat_there x t.0 t.1 in found_nowhere s sound.cradle_count seated x e t.0 h.0 h.1)
+        go true (Some i) p e = let h = found_at s sound.cradle_count seated x i e in sits i (written.seat (i + 1) x h.0 h.1)
+
+    -- the verdict of a call that looks for the seat and then does something
+    abbrev looking : (Option ℕ → Verdict (Unit {0})) → Bool → Option ℕ → Verdict (Unit {0})
+    looking next a o = cond (not a) (refused 1 []) (next o)
+
+    module _ (next : Option ℕ → Verdict (Unit {0})) where
+      is_looking : (a : Bool) (o : Option ℕ) → is_serial x ≡ a → seat_of x s ≡ o → looking next (is_serial x) (seat_of x s) ≡ looking next a o
+      is_looking a o p e = ap₂ (looking next) p e
+
+      -- where it is found
+      at_seat : (c : ℕ) → IsSeated b x c → looking next (is_serial x) (seat_of x s) ≡ next (Some (c - 1))
+      at_seat c t = is_looking true (Some (c - 1)) (serial_there x c t) (sits_found x c t)
+
+      -- refused with 1 or 5, where what comes next is refused with 5 only there
+      module _ (nowhere_is : next None ≡ refused 5 []) (not_one : (i : ℕ) → next (Some i) ≡ refused 1 [] → ⊥)
+          (not_five : (i : ℕ) → next (Some i) ≡ refused 5 [] → ⊥) where
+        no_serial_is : (looking next (is_serial x) (seat_of x s) ≡ refused 1 []) ↔ (IsSerial x → ⊥)
+        no_serial_is = (go (is_serial x) (seat_of x s) looked, λ n. is_looking false _ (not_range 1 9999 x n) refl)
+          where
+            go : (a : Bool) (o : Option ℕ) → Looks a o → looking next a o ≡ refused 1 [] → IsSerial x → ⊥
+            go false o (out n) e = n
+            go true None (nowhere p n) e = absurd (numbers_apart 5 1 (omega arith) (sym nowhere_is ∙ e))
+            go true (Some i) (sits _ t) e = absurd (not_one i e)
+
+        not_seated_is : (looking next (is_serial x) (seat_of x s) ≡ refused 5 []) ↔ (IsSerial x × (IsSomewhere b x → ⊥))
+        not_seated_is = (
+          go (is_serial x) (seat_of x s) looked,
+          λ r. is_looking true None (range_in 1 9999 x r.0) (nowhere_none x r.1) ∙ nowhere_is,
+        )
+          where
+            go : (a : Bool) (o : Option ℕ) → Looks a o → looking next a o ≡ refused 5 [] → IsSerial x × (IsSomewhere b x → ⊥)
+            go false o (out n) e = absurd (numbers_apart 1 5 (omega arith) e)
+            go true None (nowhere p n) e = (p, n)
+            go true (Some i) (sits _ t) e = absurd (not_five i e)
+
+        -- and what is neither is next where it sits
+        at_some : (v : Verdict (Unit {0})) → (v ≡ refused 1 [] → ⊥) → (v ≡ refused 5 [] → ⊥) → looking next (is_serial x) (seat_of x s) ≡ v →
+            (i : ℕ) × (IsSeated b x (i + 1) × (next (Some i) ≡ v))
+        at_some v one five = go (is_serial x) (seat_of x s) looked
+          where
+            go : (a : Bool) (o : Option ℕ) → Looks a o → looking next a o ≡ v → (i : ℕ) × (IsSeated b x (i + 1) × (next (Some i) ≡ v))
+            go false o (out n) e = absurd (one (sym e))
+            go true None (nowhere p n) e = absurd (five (sym e ∙ nowhere_is))
+            go true (Some i) (sits _ t) e = (i, (t, e))
+
+    -- Remove.
+
+    pub remove_answers : RemoveAnswers w x
+    remove_answers = record {
+      no_serial = no_serial_is (remove_seated s) refl not_one not_five;
+      not_seated = not_seated_is (remove_seated s) refl not_one not_five;
+      departing = (
+        λ e. let r = at_some (remove_seated s) refl not_one not_five (refused 6 []) (numbers_apart 6 1 (omega arith)) (numbers_apart 6 5 (omega arith)) e in
+            of_list x (departs_there x (r.0 + 1) r.1.0 ∙ failed 6 [] (departs (cradle s (r.0 + 1))) r.1.1),
+        λ d. let t = written.departing x d in
+            at_seat (remove_seated s) t.0 t.1 ∙ ap (checks 6 []) (here t.0 t.1 ∙ sym (departs_there x t.0 t.1) ∙ listed x d),
+      );
+      accepted = (
+        λ e. let r = at_some (remove_seated s) refl not_one not_five (Ok tt) (ok_apart 1) (ok_apart 5) e in (
+          (r.0 + 1, r.1.0),
+          λ d. true≢false (sym (listed x d) ∙ departs_there x (r.0 + 1) r.1.0 ∙ passed 6 [] (departs (cradle s (r.0 + 1))) r.1.1),
+        ),
+        λ r. at_seat (remove_seated s) r.0.0 r.0.1
+            ∙ ap (checks 6 []) (here r.0.0 r.0.1 ∙ sym (departs_there x r.0.0 r.0.1) ∙ false_from_ne_true _ (λ e. r.1 (of_list x e))),
+      );
+    }
+      where
+        not_one : (i : ℕ) → remove_seated s (Some i) ≡ refused 1 [] → ⊥
+        not_one i = no_other 6 [] 1 (omega arith) (departs (cradle s (i + 1)))
+
+        not_five : (i : ℕ) → remove_seated s (Some i) ≡ refused 5 [] → ⊥
+        not_five i = no_other 6 [] 5 (omega arith) (departs (cradle s (i + 1)))
+
+        here : (c : ℕ) → IsSeated b x c → departs (cradle s (c - 1 + 1)) ≡ departs (cradle s c)
+        here c t = let k = (seat_there x c t).0 in let same : c - 1 + 1 ≡ c = omega (arith, k.0) in ap (λ n. departs (cradle s n)) same
+
+    -- A card call.
+
+    pub card_answers : (buffer : List ℕ) → CardAnswers w x buffer
+    card_answers buffer = record {
+      no_serial = no_serial_is (card_seated buffer) refl not_one not_five;
+      not_seated = not_seated_is (card_seated buffer) refl not_one not_five;
+      no_room = (
+        λ e. let r = at_some (card_seated buffer) refl not_one not_five (refused 12 (39 ∷ []))
+            (numbers_apart 12 1 (omega arith)) (numbers_apart 12 5 (omega arith)) e in
+            ((r.0 + 1, r.1.0), ltb-true (length buffer) 39 (failed 12 (39 ∷ []) (ltb (length buffer) 39) r.1.1)),
+        λ r. at_seat (card_seated buffer) r.0.0 r.0.1 ∙ ap (checks 12 (39 ∷ [])) (lt-ltb (length buffer) 39 r.1),
+      );
+      accepted = (
+        λ e. let r = at_some (card_seated buffer) refl not_one not_five (Ok tt) (ok_apart 1) (ok_apart 5) e in
+            ((r.0 + 1, r.1.0), ltb-false (length buffer) 39 (passed 12 (39 ∷ []) (ltb (length buffer) 39) r.1.1)),
+        λ r. at_seat (card_seated buffer) r.0.0 r.0.1 ∙ ap (checks 12 (39 ∷ [])) (le-ltb (length buffer) 39 r.1),
+      );
+    }
+      where
+        not_one : (i : ℕ) → card_seated buffer (Some i) ≡ refused 1 [] → ⊥
+        not_one i = no_other 12 (39 ∷ []) 1 (omega arith) (ltb (length buffer) 39)
+
+        not_five : (i : ℕ) → card_seated buffer (Some i) ≡ refused 5 [] → ⊥
+        not_five i = no_other 12 (39 ∷ []) 5 (omega arith) (ltb (length buffer) 39)
