@@ -1,7 +1,7 @@
 -- What a note, its clearing or its carrying out leaves of a cradle, and its code.
-use Rattle.std.proofs.Common.{◌≡◌, ℕ, true, false, Some, None, refl, sym}
+use Rattle.std.proofs.Common.{◌≡◌, ℕ, true, false, ◌⊎◌, Some, None, refl, sym, ◌∙◌, inl, inr}
 use Rattle.std.proofs.lemmas.Bool.{true≢false}
-use Rattle.std.proofs.lemmas.Option.{none-some}
+use Rattle.std.proofs.lemmas.Option.{none-some, same_Some}
 use Rattle.tree.specs.declared.types.Code.TheVariants as codes
 use Rattle.tree.specs.Rows as rows
 use Rattle.cradles.specs.declared.Cradle.{Cradle}
@@ -9,7 +9,7 @@ use Rattle.cradles.specs.declared.Cradle.TheVariants.{Empty, Stays, Arrives, Dep
 use Rattle.cradles.specs.Cradles.{code_of, seated, awaited, holder, departs, with_arrival, with_departure, without_notes, carried_out}
 
 -- two things that are the same of each kind of cradle
-pub same_of : {A : Type 0} (f g : Cradle → A) → f Empty ≡ g Empty → ((x : ℕ) → f (Stays x) ≡ g (Stays x)) → ((x : ℕ) → f (Arrives x) ≡ g (Arrives x)) →
+same_of : {A : Type 0} (f g : Cradle → A) → f Empty ≡ g Empty → ((x : ℕ) → f (Stays x) ≡ g (Stays x)) → ((x : ℕ) → f (Arrives x) ≡ g (Arrives x)) →
     ((x : ℕ) → f (Departs x) ≡ g (Departs x)) → ((x y : ℕ) → f (Swaps x y) ≡ g (Swaps x y)) → (k : Cradle) → f k ≡ g k
 same_of f g e s a d w Empty = e
 same_of f g e s a d w (Stays x) = s x
@@ -61,7 +61,18 @@ departure_departs (Arrives y) x e = absurd (none-some x e)
 departure_departs (Departs y) x e = refl
 departure_departs (Swaps y z) x e = refl
 
+-- an arrival that is awaited was awaited before, or is the one that is noted
+pub arrival_from : (k : Cradle) (x y : ℕ) → awaited (with_arrival k x) ≡ Some y → (awaited k ≡ Some y) ⊎ (x ≡ y)
+arrival_from Empty x y e = inr (same_Some x y e)
+arrival_from (Stays z) x y e = absurd (none-some y e)
+arrival_from (Arrives z) x y e = inl e
+arrival_from (Departs z) x y e = inr (same_Some x y e)
+arrival_from (Swaps w z) x y e = inl e
+
 -- The notes are cleared.
+
+pub cleared_awaits : (k : Cradle) → awaited (without_notes k) ≡ None
+cleared_awaits k = same_of (λ c. awaited (without_notes c)) (λ c. None) refl (λ y. refl) (λ y. refl) (λ y. refl) (λ y z. refl) k
 
 pub cleared_seated : (k : Cradle) → seated (without_notes k) ≡ seated k
 cleared_seated k = same_of (λ c. seated (without_notes c)) seated refl (λ y. refl) (λ y. refl) (λ y. refl) (λ y z. refl) k
@@ -83,6 +94,17 @@ carried_holder k = same_of (λ c. holder (carried_out c)) holder refl (λ y. ref
 pub carried_departs : (k : Cradle) → departs (carried_out k) ≡ false
 carried_departs k = same_of (λ c. departs (carried_out c)) (λ c. false) refl (λ y. refl) (λ y. refl) (λ y. refl) (λ y z. refl) k
 
+pub carried_awaits : (k : Cradle) → awaited (carried_out k) ≡ None
+carried_awaits k = same_of (λ c. awaited (carried_out c)) (λ c. None) refl (λ y. refl) (λ y. refl) (λ y. refl) (λ y z. refl) k
+
+-- who is in a cradle then stayed there, or was awaited
+pub carried_from : (k : Cradle) (x : ℕ) → seated (carried_out k) ≡ Some x → ((seated k ≡ Some x) × (departs k ≡ false)) ⊎ (awaited k ≡ Some x)
+carried_from Empty x e = absurd (none-some x e)
+carried_from (Stays y) x e = inl (e, refl)
+carried_from (Arrives y) x e = inr e
+carried_from (Departs y) x e = absurd (none-some x e)
+carried_from (Swaps y z) x e = inr e
+
 pub awaited_holds : (k : Cradle) (x : ℕ) → awaited k ≡ Some x → holder k ≡ Some x
 awaited_holds Empty x e = absurd (none-some x e)
 awaited_holds (Stays y) x e = absurd (none-some x e)
@@ -97,6 +119,10 @@ stays_on (Stays y) x e d = (e, refl)
 stays_on (Arrives y) x e d = absurd (none-some x e)
 stays_on (Departs y) x e d = absurd (true≢false d)
 stays_on (Swaps y z) x e d = absurd (true≢false d)
+
+-- who holds a cradle is in it and does not depart, or is awaited
+pub holder_from : (k : Cradle) (x : ℕ) → holder k ≡ Some x → ((seated k ≡ Some x) × (departs k ≡ false)) ⊎ (awaited k ≡ Some x)
+holder_from k x e = carried_from k x (carried_seated k ∙ e)
 
 -- Its code.
 

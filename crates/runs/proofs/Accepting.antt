@@ -1,17 +1,17 @@
 -- What holds of a site holds after any call if each accepted call keeps it: refused calls and cards change nothing.
-use Rattle.std.proofs.Common.{◌≡◌, ℕ, ◌+◌, ◌≤◌, Bool, true, false, cond, not, ◌∷◌, ◌++◌, [], length, drop, Some, None, Ok, Option, is_err, leb, refl}
+use Rattle.std.proofs.Common.{◌≡◌, ℕ, ◌+◌, Bool, true, false, cond, not, ◌∷◌, ◌++◌, [], drop, Some, None, Ok, Option, is_err, leb, refl}
 use Rattle.std.proofs.lemmas.Bool.{and_parts, leb-true}
 use Rattle.refusal.specs.Refusals.{Verdict, refused, if_done}
 use Rattle.rekey.specs.Files.{written}
-use Rattle.cradles.specs.Cradles.{seated, holder, departs, with_departure}
+use Rattle.cradles.specs.Cradles.{seated, holder, departs}
 use Rattle.group.specs.declared.state.Published.{Published}
 use Rattle.group.specs.States.{cradle, seat_of, held_by}
 use Rattle.group.specs.Calls.{Call, admit, remove, drop_notes, publish, card, Publishing, Given}
 use Rattle.group.specs.Notes.{is_serial, is_cradle, admit_free, remove_seated}
 use Rattle.group.specs.Publishings.{file_of, size_of, plan_verdict}
-use Rattle.group.specs.Steps.{with_cradle, admitted, left_at, published, is_refused}
+use Rattle.group.specs.Steps.{admitted, left_at, published, is_refused}
 use Rattle.group.specs.Sound.{Cradled, Sound}
-use Rattle.runs.specs.Book.{next_epoch, noted_in, told}
+use Rattle.runs.specs.Book.{next_epoch, told}
 use Rattle.runs.specs.Runs.{Site, edition, called}
 use Rattle.runs.proofs.Editions.{accepted_or_refused, new_edition}
 use Rattle.runs.proofs.Found.{found_at}

@@ -1,24 +1,21 @@
 -- What admit, remove and a card call answer, in the book's own words.
-use Rattle.std.proofs.Common.{◌≡◌, ℕ, ◌+◌, ◌-◌, ◌<◌, ◌≤◌, ◌↔◌, Bool, true, false, cond, not, ◌&&◌, ◌⊎◌, List, [], ◌∷◌, length, Some, None, Ok, Err, Option, is_err, leb, ltb, eqb, refl, sym, ap, ap₂, ◌∙◌, subst, subst₂, inl, inr, arith}
+use Rattle.std.proofs.Common.{◌≡◌, ℕ, ◌+◌, ◌-◌, ◌≤◌, ◌↔◌, Bool, true, false, cond, not, ◌&&◌, List, [], ◌∷◌, length, Some, None, Ok, Err, Option, is_err, leb, ltb, eqb, refl, sym, ap, ap₂, ◌∙◌, subst, subst₂, inl, inr, arith}
 use Rattle.std.proofs.lemmas.Bool.{and_parts, and_from, leb-true, le-leb, lt-ltb, le-ltb, ltb-true, ltb-false, eq-eqb, eqb-true, true≢false, false_from_ne_true}
-use Rattle.std.proofs.lemmas.Option.{none-some, same_Some}
+use Rattle.std.proofs.lemmas.Option.{none-some}
 use Rattle.refusal.specs.Refusals.{Verdict, refused}
 use Rattle.tree.specs.Tree.{some}
 use Rattle.tree.specs.Plans.{In}
 use Rattle.tree.proofs.Members.{some_from, some_who}
-use Rattle.cradles.specs.declared.Cradle.{Cradle}
-use Rattle.cradles.specs.declared.Cradle.TheVariants.{Empty, Stays, Arrives, Departs, Swaps}
 use Rattle.cradles.specs.Cradles.{seated, awaited, holder, departs}
 use Rattle.cradles.proofs.Notes
 use Rattle.group.specs.declared.state.State.{State}
 use Rattle.group.specs.States.{cradle, seat_of, held_by}
-use Rattle.group.specs.Notes.{is_serial, is_cradle, admit_free, admit_verdict, remove_seated, remove_verdict}
-use Rattle.group.specs.Cards.{card_seated, card_verdict}
+use Rattle.group.specs.Notes.{is_serial, is_cradle, admit_free, admit_verdict, remove_seated}
+use Rattle.group.specs.Cards.{card_seated}
 use Rattle.group.specs.Sound.{Cradled, Sound}
-use Rattle.runs.specs.Book.{Book, Seat, Arrival, IsSeated, IsSomewhere, IsArriving, IsDeparting, IsHolder, IsOut, IsFree}
+use Rattle.runs.specs.Book.{Book, IsSeated, IsSomewhere, IsArriving, IsDeparting, IsHolder, IsOut, IsFree}
 use Rattle.runs.specs.Runs.{Site}
 use Rattle.runs.specs.Answers.{IsSerial, SameCradles, AdmitAnswers, RemoveAnswers, CardAnswers}
-use Rattle.runs.proofs.Agreement.{Sits}
 use Rattle.runs.proofs.Found.{found_at, found_nowhere, found_there}
 use Rattle.runs.proofs.Kept.{Kept}
 use Rattle.runs.proofs.Seated.{WrittenIn}
@@ -62,14 +59,6 @@ module _ (n : ℕ) (ns : List ℕ) where
   no_other : (m : ℕ) {ms : List ℕ} → (n ≡ m → ⊥) → (d : Bool) → checks d ≡ refused m ms → ⊥
   no_other m other true e = numbers_apart n m other e
   no_other m other false e = ok_apart m e
-
--- who holds a cradle is in it and does not depart, or is awaited
-holder_from : (k : Cradle) (x : ℕ) → holder k ≡ Some x → ((seated k ≡ Some x) × (departs k ≡ false)) ⊎ (awaited k ≡ Some x)
-holder_from Empty x e = absurd (none-some x e)
-holder_from (Stays y) x e = inl (e, refl)
-holder_from (Arrives y) x e = inr e
-holder_from (Departs y) x e = absurd (none-some x e)
-holder_from (Swaps y z) x e = inr e
 
 module _ (w : Site) (sound : Sound w.server) (kept : Kept w) (written : WrittenIn w) where
   abbrev s : State
@@ -120,7 +109,7 @@ module _ (w : Site) (sound : Sound w.server) (kept : Kept w) (written : WrittenI
   holds_there x c (inr a) = let h = arrival_there x c a in (h.0, Notes.awaited_holds (cradle s c) x h.1)
 
   holder_there : (x c : ℕ) → Cradled c → holder (cradle s c) ≡ Some x → IsHolder b x c
-  holder_there x c k e = elim (holder_from (cradle s c) x e) [
+  holder_there x c k e = elim (Notes.holder_from (cradle s c) x e) [
     | inl h ↦ let t = written.seat c x k h.0 in inl (t, λ d. true≢false (sym (listed x d) ∙ departs_there x c t ∙ h.1))
     | inr h ↦ inr (written.arrival c x k h)
   ]

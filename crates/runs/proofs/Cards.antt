@@ -1,6 +1,6 @@
 -- The card of a seat: what the card call writes, and that enrolling with it is accepted.
-use Rattle.std.proofs.Common.{◌≡◌, ℕ, ◌+◌, ◌-◌, ◌≤◌, inl, inr, is_err, ap₂, Bool, true, not, cond, List, [], ◌∷◌, ◌++◌, length, drop, min, Some, None, Ok, Option, get_or, leb, ltb, eqb, replicate, refl, sym, ap, ◌∙◌, arith, ap₂}
-use Rattle.std.proofs.lemmas.Bool.{and_parts, and_from, leb-true, le-leb, eq-eqb, le-ltb, lt-ltb, cases_lt, true≢false}
+use Rattle.std.proofs.Common.{◌≡◌, ℕ, ◌+◌, ◌-◌, ◌≤◌, inl, inr, is_err, ap₂, true, not, cond, List, [], ◌∷◌, ◌++◌, length, drop, min, Some, None, Ok, Option, leb, ltb, eqb, replicate, refl, sym, ap, ◌∙◌, arith, ap₂}
+use Rattle.std.proofs.lemmas.Bool.{and_parts, and_from, leb-true, le-leb, le-ltb, lt-ltb, cases_lt, true≢false}
 use Rattle.std.proofs.lemmas.List.{take_all}
 use Rattle.rekey.specs.Layout.{between}
 use Rattle.byte_strings.specs.Strings.{part}

@@ -1,12 +1,12 @@
 -- What admit checks of a serial and a cradle holds of all stays, and of all noted arrivals.
-use Rattle.std.proofs.Common.{◌≡◌, ℕ, ◌+◌, Bool, true, false, not, List, [], ◌∷◌, map, filter, Ok, Err, is_err, refl, sym, ap, ◌∙◌, subst, inl, inr}
+use Rattle.std.proofs.Common.{◌≡◌, ℕ, Bool, true, false, List, [], ◌∷◌, map, filter, Ok, Err, is_err, refl, sym, ap, ◌∙◌, inl, inr}
 use Rattle.refusal.specs.Refusals.{Verdict}
 use Rattle.tree.specs.Plans.{In}
 use Rattle.tree.proofs.Members.{in_append, in_map, in_kept}
 use Rattle.group.specs.Calls.{Call, admit, remove, drop_notes, publish, card}
 use Rattle.group.specs.Notes.{admit_verdict}
 use Rattle.group.specs.Steps.{is_refused}
-use Rattle.runs.specs.Book.{Book, Seat, Arrival, Stay, IsStay, departing, stay_to, next_epoch, noted_in, told}
+use Rattle.runs.specs.Book.{Book, Seat, Arrival, Stay, departing, stay_to, next_epoch, told}
 use Rattle.runs.specs.Runs.{run}
 use Rattle.runs.specs.Law.{AllHave, Checked}
 use Rattle.runs.proofs.Agreement.{seat_next}

@@ -7,7 +7,7 @@ use Rattle.group.specs.Sound.{Sound}
 use Rattle.group.proofs.EveryCall.{state_laws}
 use Rattle.scanner.proofs.EveryPlayer.{player_laws}
 use Rattle.tree.proofs.Members.{in_map, falling_in}
-use Rattle.runs.specs.Book.{Book, Stay, IsStay, Covers, Member}
+use Rattle.runs.specs.Book.{Stay, IsStay, Covers, Member}
 use Rattle.group.specs.Calls.{Call}
 use Rattle.group.specs.Calls as calling
 use Rattle.runs.specs.Runs.{Site, Edition, run, AllGiven}

@@ -1,23 +1,20 @@
 -- What every run keeps: the book agrees with the server, and what holds of seats, keys and links.
-use Rattle.std.proofs.Common.{◌≡◌, ℕ, zero, suc, ◌+◌, ◌-◌, ◌≤◌, Bool, true, false, cond, not, ◌⊎◌, List, [], ◌∷◌, ◌++◌, map, length, drop, get_or, set, replicate, Some, None, Ok, Option, is_err, leb, refl, sym, ap, ◌∙◌, subst, inl, inr, arith, get_or-set_same, get_or-set_other, ap₂}
+use Rattle.std.proofs.Common.{◌≡◌, ℕ, zero, suc, ◌+◌, ◌-◌, ◌≤◌, Bool, true, false, cond, not, ◌⊎◌, List, [], ◌∷◌, map, length, get_or, set, replicate, Some, None, Ok, refl, sym, ap, ◌∙◌, subst, inl, inr, arith, get_or-set_same, get_or-set_other, ap₂}
 use Rattle.std.proofs.Math.ListN.{get_or-map}
-use Rattle.std.proofs.lemmas.Bool.{and_parts, leb-true}
 use Rattle.std.proofs.lemmas.List.{length-map}
-use Rattle.refusal.specs.Refusals.{Verdict, refused, if_done}
+use Rattle.refusal.specs.Refusals.{Verdict, refused}
 use Rattle.tree.specs.Plans.{In}
 use Rattle.keys.specs.Names.{Keys, named, unmade, held}
-use Rattle.rekey.specs.Files.{written}
 use Rattle.rekey.specs.Sealing.{opener_name}
 use Rattle.cradles.specs.declared.Cradle.{Cradle}
 use Rattle.cradles.specs.declared.Cradle.TheVariants.{Empty}
-use Rattle.cradles.specs.Cradles.{code_of, seated, holder, departs, with_arrival, with_departure, without_notes, carried_out}
+use Rattle.cradles.specs.Cradles.{code_of, seated, holder, with_arrival, with_departure, without_notes, carried_out}
 use Rattle.group.specs.declared.state.State.{State}
-use Rattle.group.specs.declared.state.Published.{Published}
-use Rattle.group.specs.States.{cradle, row, seat_of, held_by, noted}
-use Rattle.group.specs.Calls.{Call, admit, remove, drop_notes, publish, card, Publishing, Given}
-use Rattle.group.specs.Notes.{is_serial, is_cradle, admit_free, remove_seated}
-use Rattle.group.specs.Publishings.{plan_of, file_of, size_of, plan_verdict}
-use Rattle.group.specs.Steps.{with_cradle, admitted, left_at, published, is_refused}
+use Rattle.group.specs.States.{cradle, row, noted}
+use Rattle.group.specs.Calls.{Call, drop_notes, publish, Publishing, Given}
+use Rattle.group.specs.Notes.{is_serial}
+use Rattle.group.specs.Publishings.{plan_of, plan_verdict}
+use Rattle.group.specs.Steps.{with_cradle, admitted, left_at, published}
 use Rattle.group.specs.Sound.{Cradled, Sound}
 use Rattle.group.specs.Laws.{Renewal, StateLaws}
 use Rattle.group.proofs.Verdicts.{plan_passed}
@@ -25,15 +22,15 @@ use Rattle.tree.specs.Tree.{falling}
 use Rattle.tree.proofs.Members.{map_in}
 use Rattle.runs.proofs.Accepting.{admit_leaves, remove_leaves, after_call}
 use Rattle.runs.proofs.Falling.{in_falling, falling_next}
-use Rattle.runs.specs.Book.{Seat, Arrival, Book, next_epoch, told}
-use Rattle.runs.specs.Runs.{Edition, group_key, edition, Site, called, run, AllGiven}
+use Rattle.runs.specs.Book.{Seat, Arrival, Book, next_epoch}
+use Rattle.runs.specs.Runs.{Edition, group_key, Site, called, run, AllGiven}
 use Rattle.runs.specs.Reach.{Link}
 use Rattle.runs.specs.Law.{Readable}
 use Rattle.runs.proofs.Steady.{Steady}
 use Rattle.runs.proofs.SteadyNext.{Change, OfPlan, steady_next}
 use Rattle.runs.proofs.RootKeys.{root_key}
 use Rattle.runs.proofs.Agreement.{seat_next, Agrees, OneOther, admit_agrees, remove_agrees, drop_agrees, publish_agrees, seats_next, ended_next}
-use Rattle.runs.proofs.Editions.{accepted_or_refused, link_more, new_edition, readable, link_new, link_is}
+use Rattle.runs.proofs.Editions.{link_more, new_edition, readable, link_new, link_is}
 
 -- the serials of a book are serials
 pub record Serials (b : Book) : Type 0 where

@@ -1,17 +1,15 @@
 -- Who is in a cradle, or noted there, stands so in the book, and who was in one stays a member in the epoch of that moment.
-use Rattle.std.proofs.Common.{◌≡◌, ℕ, zero, suc, ◌+◌, ◌-◌, Bool, true, false, cond, not, ◌⊎◌, List, [], ◌∷◌, ◌++◌, map, filter, get_or, replicate, Some, None, Ok, Option, refl, sym, ap, ◌∙◌, subst, inl, inr, arith, leb}
+use Rattle.std.proofs.Common.{◌≡◌, ℕ, zero, suc, ◌+◌, ◌-◌, Bool, true, false, not, List, [], ◌∷◌, ◌++◌, map, filter, get_or, replicate, Some, None, Option, refl, sym, ap, ◌∙◌, inl, inr, arith}
 use Rattle.std.proofs.Math.ListN.{get_or-map}
-use Rattle.std.proofs.lemmas.Bool.{cases_eq, and_parts, leb-true}
-use Rattle.std.proofs.lemmas.Option.{none-some, same_Some}
-use Rattle.refusal.specs.Refusals.{refused}
+use Rattle.std.proofs.lemmas.Bool.{cases_eq}
+use Rattle.std.proofs.lemmas.Option.{none-some}
 use Rattle.tree.specs.Plans.{In}
 use Rattle.tree.proofs.Members.{in_left, in_right, kept_in, map_in}
 use Rattle.cradles.specs.declared.Cradle.{Cradle}
-use Rattle.cradles.specs.declared.Cradle.TheVariants.{Empty, Stays, Arrives, Departs, Swaps}
-use Rattle.cradles.specs.Cradles.{seated, awaited, holder, departs, with_arrival, with_departure, without_notes, carried_out}
+use Rattle.cradles.specs.declared.Cradle.TheVariants.{Empty}
+use Rattle.cradles.specs.Cradles.{seated, awaited, departs, with_arrival, with_departure, without_notes, carried_out}
 use Rattle.cradles.proofs.Notes
-use Rattle.group.specs.States.{cradle, seat_of, held_by}
-use Rattle.group.specs.Notes.{is_serial, is_cradle, admit_free, remove_seated}
+use Rattle.group.specs.States.{cradle}
 use Rattle.group.specs.Calls.{Call, admit, remove, drop_notes, publish, card, Given}
 use Rattle.group.specs.Steps.{is_refused}
 use Rattle.group.specs.Sound.{Cradled, Sound}
@@ -31,28 +29,6 @@ pub record Written (cradles : ℕ → Cradle) (b : Book) : Type 0 where
 abbrev arrival : ℕ → ℕ → Arrival
 arrival x c = record { serial = x; cradle = c }
 
--- who is in a cradle after a change stayed there, or was awaited
-carried_from : (k : Cradle) (x : ℕ) → seated (carried_out k) ≡ Some x → ((seated k ≡ Some x) × (departs k ≡ false)) ⊎ (awaited k ≡ Some x)
-carried_from Empty x e = absurd (none-some x e)
-carried_from (Stays y) x e = inl (e, refl)
-carried_from (Arrives y) x e = inr e
-carried_from (Departs y) x e = absurd (none-some x e)
-carried_from (Swaps y z) x e = inr e
-
-carried_awaits : (k : Cradle) → awaited (carried_out k) ≡ None
-carried_awaits k = Notes.same_of (λ c. awaited (carried_out c)) (λ c. None) refl (λ y. refl) (λ y. refl) (λ y. refl) (λ y z. refl) k
-
-cleared_awaits : (k : Cradle) → awaited (without_notes k) ≡ None
-cleared_awaits k = Notes.same_of (λ c. awaited (without_notes c)) (λ c. None) refl (λ y. refl) (λ y. refl) (λ y. refl) (λ y z. refl) k
-
--- an arrival that is awaited was awaited before, or is the one that is noted
-arrival_from : (k : Cradle) (x y : ℕ) → awaited (with_arrival k x) ≡ Some y → (awaited k ≡ Some y) ⊎ (x ≡ y)
-arrival_from Empty x y e = inr (same_Some x y e)
-arrival_from (Stays z) x y e = absurd (none-some y e)
-arrival_from (Arrives z) x y e = inl e
-arrival_from (Departs z) x y e = inr (same_Some x y e)
-arrival_from (Swaps w z) x y e = inl e
-
 module _ (before after : ℕ → Cradle) (b : Book) (old : Written before b) where
   admit_writes : (x c : ℕ) → OneOther before after c (with_arrival (before c) x) → Written after (noted_in b (admit x c))
   admit_writes x c o = record { seat = sits; arrival = comes; departing = old.departing }
@@ -68,7 +44,7 @@ module _ (before after : ℕ → Cradle) (b : Book) (old : Written before b) whe
 
       comes : (d y : ℕ) → Cradled d → awaited (after d) ≡ Some y → IsArriving (noted_in b (admit x c)) y d
       comes d y k e = elim (cases_eq d c) [
-        | inl q ↦ elim (arrival_from (before d) x y (sym (ap awaited (here d q)) ∙ e)) [
+        | inl q ↦ elim (Notes.arrival_from (before d) x y (sym (ap awaited (here d q)) ∙ e)) [
           | inl was ↦ inr (old.arrival d y k was)
           | inr is ↦ rw q (inl (ap (λ z. arrival z c) (sym is)))
         ]
@@ -92,14 +68,14 @@ module _ (before after : ℕ → Cradle) (b : Book) (old : Written before b) whe
   drop_writes : ((d : ℕ) → Cradled d → after d ≡ without_notes (before d)) → Written after (noted_in b drop_notes)
   drop_writes each = record {
     seat = λ d y k e. old.seat d y k (sym (ap seated (each d k) ∙ Notes.cleared_seated (before d)) ∙ e);
-    arrival = λ d y k e. absurd (none-some y (sym (ap awaited (each d k) ∙ cleared_awaits (before d)) ∙ e));
+    arrival = λ d y k e. absurd (none-some y (sym (ap awaited (each d k) ∙ Notes.cleared_awaits (before d)) ∙ e));
     departing = λ x i. absurd i;
   }
 
   publish_writes : ((d : ℕ) → Cradled d → after d ≡ carried_out (before d)) → ((t : Seat) → In t b.seats → departing b t ≡ departs (before t.cradle)) →
       Written after (next_epoch b)
   publish_writes each leaves = record {
-    seat = λ d y k e. elim (carried_from (before d) y (sym (ap seated (each d k)) ∙ e)) [
+    seat = λ d y k e. elim (Notes.carried_from (before d) y (sym (ap seated (each d k)) ∙ e)) [
       | inl r ↦
           let s = old.seat d y k r.0 in
           let stays : departing b s.0 ≡ false = leaves s.0 s.1.0 ∙ ap (λ n. departs (before n)) s.1.1.1 ∙ r.1 in (
@@ -120,7 +96,7 @@ module _ (before after : ℕ → Cradle) (b : Book) (old : Written before b) whe
             ),
           )
     ];
-    arrival = λ d y k e. absurd (none-some y (sym (ap awaited (each d k) ∙ carried_awaits (before d)) ∙ e));
+    arrival = λ d y k e. absurd (none-some y (sym (ap awaited (each d k) ∙ Notes.carried_awaits (before d)) ∙ e));
     departing = λ x i. absurd i;
   }
 

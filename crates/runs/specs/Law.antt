@@ -1,6 +1,6 @@
 -- A group key belongs to its members, whatever was called: it is reached by nobody else, and each
 -- of their players holds it. Calls and files are listed the newest first.
-use Rattle.std.specs.Prelude.{◌≡◌, ℕ, ◌≤◌, ◌↔◌, Bool, true, List, ◌∷◌, ◌++◌, length, map, take, drop, Some, None, Ok}
+use Rattle.std.specs.Prelude.{◌≡◌, ℕ, ◌≤◌, ◌↔◌, Bool, true, List, ◌∷◌, ◌++◌, length, map, drop, Some, None, Ok}
 use Rattle.byte_strings.specs.Strings.{Bytes}
 use Rattle.tree.specs.Tree.{Within, falling}
 use Rattle.tree.specs.Plans.{In}
