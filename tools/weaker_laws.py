@@ -1,0 +1,134 @@
+#!/usr/bin/env python3
+"""Weakens definitions of the law over runs one at a time, in a copy of this tree, and checks that it is then proved no more.
+
+Each weakening leaves the law standing in words and takes something out of it: a book that seats nobody, players that are handed nothing.
+Proofs that only name what was weakened are mended beside it, so that what refuses it is a fact that no longer holds. The checker has
+to refuse the named crate, and its errors have to be those lemmas. Not a part of the gate: an edit there is one file.
+
+usage: tools/weaker_laws.py [NAME ..]
+"""
+import os
+import re
+import shutil
+import subprocess
+import sys
+import tempfile
+
+TOP = os.path.dirname(os.path.dirname(os.path.abspath(__file__)))
+
+BOOK = "runs/specs/Book.antt"
+PLAYERS = "runs/specs/Players.antt"
+AGREEMENT = "runs/proofs/Agreement.antt"
+SEATED = "runs/proofs/Seated.antt"
+
+NEW_SEATS = "map (seat_from (b.epoch + 1)) b.arrivals ++ filter (λ t. not (departing b t)) b.seats"
+NEXT_SEAT = """seat_next b t i = elim (in_append (map (seat_from (b.epoch + 1)) b.arrivals) (filter (λ u. not (departing b u)) b.seats) t i) [
+  | inl j ↦ inl (in_map (seat_from (b.epoch + 1)) b.arrivals t j)
+  | inr k ↦ let r = in_kept (λ u. not (departing b u)) b.seats t k in inr (r.0, not-true (departing b t) r.1)
+]"""
+NEXT_ENDED = """ended_next s i = elim (in_append (map (stay_to b.epoch) (filter (departing b) b.seats)) b.ended s i) [
+    | inl j ↦ let r = in_map (stay_to b.epoch) (filter (departing b) b.seats) s j in left s r.0 r.1.0 r.1.1
+    | inr k ↦ ended_before k
+  ]"""
+HAVE_ENDED = """ended = λ s i. elim (in_append (map (stay_to b.epoch) (filter (departing b) b.seats)) b.ended s i) [
+      | inl j ↦ let r = in_map (stay_to b.epoch) (filter (departing b) b.seats) s j in rw r.1.1 (old.seats r.0 (in_kept (departing b) b.seats r.0 r.1.0).0)
+      | inr k ↦ old.ended s k
+    ];"""
+
+STAYING_SEAT = """in_right (map (seat_from (b.epoch + 1)) b.arrivals) (filter (λ t. not (departing b t)) b.seats) s.0
+                  (kept_in (λ t. not (departing b t)) b.seats s.0 s.1.0 (ap not stays))"""
+STAYING_MEMBER = """in_right (map (seat_from (b.epoch + 1)) b.arrivals) (filter (λ t. not (departing b t)) b.seats) m.stay.seat
+            (kept_in (λ t. not (departing b t)) b.seats m.stay.seat i (ap not d))"""
+
+# name, what it leaves, the crate that refuses it, the lemmas that are false then, and the replacements: file, old, new
+WEAKER = [
+    (
+        "nobody_is_seated",
+        "the book seats nobody who arrives, so nobody is ever a member",
+        "runs",
+        ["publish_writes"],
+        [
+            (BOOK, f"seats = {NEW_SEATS};", "seats = filter (λ t. not (departing b t)) b.seats;"),
+            (
+                AGREEMENT,
+                NEXT_SEAT,
+                "seat_next b t i = let r = in_kept (λ u. not (departing b u)) b.seats t i in inr (r.0, not-true (departing b t) r.1)",
+            ),
+            (SEATED, STAYING_SEAT, "kept_in (λ t. not (departing b t)) b.seats s.0 s.1.0 (ap not stays)"),
+            (SEATED, STAYING_MEMBER, "kept_in (λ t. not (departing b t)) b.seats m.stay.seat i (ap not d)"),
+        ],
+    ),
+    (
+        "departed_scanners_vanish",
+        "who departs has no stay in the book any more",
+        "runs",
+        ["member_next"],
+        [
+            (BOOK, "ended = map (stay_to b.epoch) (filter (departing b) b.seats) ++ b.ended;", "ended = b.ended;"),
+            (AGREEMENT, NEXT_ENDED, "ended_next s i = ended_before i"),
+            ("runs/proofs/Checked.antt", HAVE_ENDED, "ended = old.ended;"),
+        ],
+    ),
+    (
+        "no_course_is_handed_a_file",
+        "no player can be handed a file, so whatever is said of those who were holds",
+        "runs",
+        ["some_course"],
+        [
+            (
+                PLAYERS,
+                "(x : Edition) (work : List ℕ) → 512 ≤ length work →",
+                "(x : Edition) (work : List ℕ) → (512 ≤ length work) × (length work ≤ 511) →",
+            ),
+            ("runs/proofs/Courses.antt", "does b q r work h c", "does b q r work h.0 c"),
+        ],
+    ),
+]
+
+
+def weaken(copy, replacements):
+    """Makes the replacements; each old text has to stand in its file exactly once."""
+    for file, old, new in replacements:
+        path = os.path.join(copy, "crates", file)
+        with open(path, encoding="utf8") as f:
+            text = f.read()
+        if text.count(old) != 1:
+            sys.exit(f"{file} has this {text.count(old)} times, not once:\n{old}")
+        with open(path, "w", encoding="utf8") as f:
+            f.write(text.replace(old, new))
+
+
+def refused_at(copy, crate):
+    """The lemmas at which the check of the crate stops, without those that depend on them, or None if it is proved."""
+    check = subprocess.run(["rt", "check"], cwd=os.path.join(copy, "crates", crate), capture_output=True, text=True)
+    if check.returncode == 0:
+        return None
+    errors = re.findall(r"error: `([^`]+)`", check.stdout + check.stderr)
+    if not errors:
+        sys.exit(f"the check of {crate} stopped with no error at a lemma:\n{check.stdout[-2000:]}{check.stderr[-2000:]}")
+    return errors
+
+
+def main():
+    names = sys.argv[1:]
+    bad = 0
+    for name, words, crate, lemmas, replacements in WEAKER:
+        if names and name not in names:
+            continue
+        with tempfile.TemporaryDirectory() as parent:
+            copy = os.path.join(parent, "copy")
+            shutil.copytree(TOP, copy, ignore=shutil.ignore_patterns(".git", "target"))
+            weaken(copy, replacements)
+            found = refused_at(copy, crate)
+        if found is None:
+            print(f"{name}: {words}: STILL PROVED")
+            bad += 1
+        elif set(found) != set(lemmas):
+            print(f"{name}: {words}: refused at {', '.join(found)}, and not just at {', '.join(lemmas)}")
+            bad += 1
+        else:
+            print(f"{name}: {words}: refused at {', '.join(found)} of {crate}")
+    sys.exit(1 if bad else 0)
+
+
+main()
