@@ -1,7 +1,7 @@
 #!/bin/sh
-# Checks that the types of a player still turn down two misuses: a waiting player asked for the group key, and a wiped player given a
-# file. Each is a small crate over `player`, in a copy of this tree; the checker has to refuse it with the message that docs/player.md
-# shows. Not a part of the gate, since there an edit that does not compile counts as a bad edit.
+# Checks that misuses are still turned down: a waiting player asked for the group key, a wiped player given a file, and a key wrap that
+# seals without the checks of the interface. Each is a small crate in a copy of this tree; the checker has to refuse it with the message
+# that docs/player.md and docs/wraps.md show. Not a part of the gate, since there an edit that does not compile counts as a bad edit.
 #
 # usage: tools/misuses.sh
 set -eu
@@ -10,7 +10,7 @@ top=$(cd "$(dirname "$0")/.." && pwd)
 copy=$(mktemp -d)
 trap 'rm -rf "$copy"' EXIT
 (cd "$top" && tar cf - --exclude .git --exclude target .) | (cd "$copy" && tar xf -)
-printf '\n# a misuse of a player\nmisuse: byte_strings wrap player\n' >>"$copy/crates.txt"
+printf '\n# a misuse\nmisuse: byte_strings aes wrap kw player\n' >>"$copy/crates.txt"
 mkdir -p "$copy/crates/misuse/src"
 
 # turned_down WHAT MESSAGE: the crate on standard input is refused with that message
@@ -56,5 +56,82 @@ pub fn read_on<W: Wrap>(
     work: &mut [u8],
 ) -> Option<Seated> {
     player.read(wrap, file, ring, work).ok()
+}
+CRATE
+
+turned_down "a key wrap seals without the checks of the interface" \
+    'cannot override `seal`, which is `final` in the trait' <<'CRATE'
+//! A key wrap seals without the checks of the interface.
+#![tactic(auto)]
+
+ghost use Rattle.std.proofs.Common.{lit≤};
+ghost use Rattle.aes.proofs.Permuting.{permutes};
+ghost use Rattle.kw.specs.Wrapping.{key_wrap, key_unwrap};
+ghost use Rattle.kw.specs.Lawful.{wrap_sized, unwrap_wrap, unwrap_only};
+
+use kw::KeyWrap;
+use wrap::{Wrap, WrapFault};
+
+pub struct Unchecked;
+
+impl Wrap for Unchecked {
+    ghost wrap_kind = { 1 };
+
+    ghost wrap_length = { 40 };
+
+    ghost sealed = { λ key name content. key_wrap key content };
+
+    ghost opened = { λ key name bytes. key_unwrap key bytes };
+
+    ghost kind_range = { (lit≤ tt, lit≤ tt) };
+
+    ghost length_range = { (lit≤ tt, lit≤ tt) };
+
+    ghost sealed_sized = { λ k n c hk hn hc. wrap_sized k (permutes k hk.1) c hc };
+
+    ghost opens_sealed = { λ k n c hk hn hc. unwrap_wrap k (permutes k hk.1) c hc };
+
+    ghost opened_was_sealed = { λ k n z c hk hn hz o. unwrap_only k (permutes k hk.1) z c hz o };
+
+    fn kind(&self) -> u8 {
+        KeyWrap.kind()
+    }
+
+    fn sealed_len(&self) -> usize {
+        KeyWrap.sealed_len()
+    }
+
+    fn seal_to(
+        &self,
+        key: [u8; 32],
+        name: [u8; 10],
+        content: [u8; 32],
+        out: &mut [u8],
+        work: &mut [u8],
+    ) {
+        KeyWrap.seal_to(key, name, content, out, work);
+    }
+
+    fn open_from(
+        &self,
+        key: [u8; 32],
+        name: [u8; 10],
+        bytes: &[u8],
+        work: &mut [u8],
+    ) -> Option<[u8; 32]> {
+        KeyWrap.open_from(key, name, bytes, work)
+    }
+
+    fn seal(
+        &self,
+        key: [u8; 32],
+        name: [u8; 10],
+        content: [u8; 32],
+        out: &mut [u8],
+        work: &mut [u8],
+    ) -> Result<(), WrapFault> {
+        self.seal_to(key, name, content, out, work);
+        Ok(())
+    }
 }
 CRATE

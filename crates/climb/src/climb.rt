@@ -2,6 +2,7 @@
 ghost use Rattle.std.specs.Prelude.{◌≡◌, ◌<◌, ◌≤◌, length, replicate, Some};
 ghost use Rattle.byte_strings.specs.Numbers.{number4};
 ghost use Rattle.refusal.specs.Refusals.{told};
+ghost use Rattle.wrap.specs.Calls.{wiped};
 ghost use Rattle.layout.specs.Refusals.{with_index};
 ghost use Rattle.keys.specs.Names.{unmade, held};
 ghost use Rattle.rekey.specs.Layout.{wrap_count};
@@ -20,7 +21,7 @@ use keys::NodeKey;
 use reader::RekeyFile;
 use ring::{Ring, node_above};
 use scanner::Found;
-use wrap::Wrap;
+use wrap::{Working, Wrap};
 
 // Opens a wrap of the file under a key, and writes its content to `place`.
 #[tactic(auto, using(crate::proofs::Taken::wrap_stands))]
@@ -176,7 +177,8 @@ fn follow_on<W: Wrap>(
     result
 }
 
-/// Follows a file that was checked with this wrap, from the leaf's parent to the root: the ring is written once, at the end.
+/// Follows a file that was checked with this wrap, from the leaf's parent to the root: the ring is written once, at the end. Clears
+/// `work`.
 pub fn follow<W: Wrap>(
     wrap: &W,
     file: RekeyFile<'_>,
@@ -189,7 +191,9 @@ pub fn follow<W: Wrap>(
     requires ring { length ring.old ≡ 288 }
     ensures answer { told refusal_of result ≡ done (followed (key_wrap W.wrap_kind W.wrap_length W.sealed W.opened) (read_back W.wrap_length file.entry.bytes.now) leaf (entries ring.old)) }
     ensures ring { ring.new ≡ ring_or (followed (key_wrap W.wrap_kind W.wrap_length W.sealed W.opened) (read_back W.wrap_length file.entry.bytes.now) leaf (entries ring.old)) ring.old }
+    ensures cleared { work.new ≡ wiped work.old }
 {
+    let guard = Working { bytes: work };
     let mut copy = Ring::of(ring);
-    follow_on(wrap, file, leaf, &mut copy, ring, work)
+    follow_on(wrap, file, leaf, &mut copy, ring, guard.bytes)
 }

@@ -8,7 +8,7 @@ ghost use Rattle.kw.specs.Lawful.{wrap_sized, unwrap_wrap, unwrap_only};
 ghost use Rattle.std.proofs.Common.{lit≤};
 
 use aes::Schedule;
-use wrap::{Kind, Wrap};
+use wrap::{Kind, Working, Wrap};
 
 mod register;
 
@@ -79,10 +79,12 @@ impl Wrap for KeyWrap {
         out: &mut [u8],
         work: &mut [u8],
     ) {
+        let guard = Working { bytes: work };
         let Some(register) = out.as_mut_array() else {
             unreachable!();
         };
-        wrap_key(key, content, register, &mut work[0..SCHEDULE]);
+        let (schedule, _) = guard.bytes.split_at_mut(SCHEDULE);
+        wrap_key(key, content, register, schedule);
     }
 
     fn open_from(
@@ -92,7 +94,8 @@ impl Wrap for KeyWrap {
         bytes: &[u8],
         work: &mut [u8],
     ) -> Option<[u8; 32]> {
-        let (schedule, rest) = work.split_at_mut(SCHEDULE);
+        let guard = Working { bytes: work };
+        let (schedule, rest) = guard.bytes.split_at_mut(SCHEDULE);
         let Some(register) = rest.first_chunk_mut() else {
             unreachable!();
         };

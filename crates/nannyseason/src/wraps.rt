@@ -6,22 +6,13 @@ ghost use Rattle.nannyseason.specs.Answers.{says, misuse};
 ghost use Rattle.nannyseason.specs.Wraps.{seal_told, seal_left, open_told, open_left};
 
 use crate::answer::{Answer, DONE, MISUSE};
-use wrap::{WORKING_BYTES, Wrap};
-
-/// Makes zeros of working bytes that a call could have used.
-pub(crate) fn clear(work: &mut [u8])
-    ensures { work.new ≡ wiped work.old }
-{
-    if work.len() >= WORKING_BYTES {
-        work.fill(0);
-    }
-}
+use wrap::{Working, Wrap};
 
 pub(crate) fn misused(work: &mut [u8]) -> Answer
     ensures answer { result ≡ says {A = Unit {0}} misuse }
     ensures cleared { work.new ≡ wiped work.old }
 {
-    clear(work);
+    drop(Working { bytes: work });
     MISUSE
 }
 

@@ -27,10 +27,10 @@ pub(crate) fn read_wanted<W: Wrap>(
     ensures cleared { work.new ≡ wiped work.old }
     ensures epoch { OnOk result (wanted ≤ 1000000) }
 {
-    if work.len() < WORKING_BYTES {
+    let guard = Working { bytes: work };
+    if guard.bytes.len() < WORKING_BYTES {
         return Err(ReadFault::ShortWorking);
     }
-    let guard = Working { bytes: work };
     if ring.len() != RING_BYTES {
         return Err(ReadFault::NotARing);
     }

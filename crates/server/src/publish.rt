@@ -96,12 +96,11 @@ pub(crate) fn publish<S: Strategy, W: Wrap>(
     ensures written { file.new ≡ publish_file state.old (publishing S.planned (key_wrap W.wrap_kind W.wrap_length W.sealed W.opened) material.now pairs.old file.old work.old) }
     ensures cleared { work.new ≡ wiped work.old }
 {
-    if work.len() < WORKING_BYTES {
-        due(state)?;
-        return Err(PublishFault::ShortWorking);
-    }
     let guard = Working { bytes: work };
     due(state)?;
+    if guard.bytes.len() < WORKING_BYTES {
+        return Err(PublishFault::ShortWorking);
+    }
     let row = row(&state.cradles);
     let draws = Draws::new(&row);
     let drawn = draws.len();

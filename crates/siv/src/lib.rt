@@ -11,7 +11,7 @@ ghost use Rattle.std.proofs.Common.{lit≤};
 
 use aes::Schedule;
 use byte_strings::{equal, part_of, put};
-use wrap::{Kind, Wrap};
+use wrap::{Kind, Working, Wrap};
 
 mod counter;
 mod s2v;
@@ -86,9 +86,8 @@ fn accepts(w: Schedule<'_>, string: &[u8], v: [u8; 16], text: &mut [u8]) -> bool
     equal(&t, &v)
 }
 
-/// Seals the text in place under the key: returns V, and the text becomes C. The schedules of the key's halves are left
-/// in `w1` and `w2`.
-pub fn seal_under(
+// Seals the text in place under the key: returns V, and the text becomes C.
+fn seal_under(
     key: [u8; 32],
     string: &[u8],
     text: &mut [u8],
@@ -142,9 +141,11 @@ impl Wrap for Siv {
         out: &mut [u8],
         work: &mut [u8],
     ) {
-        let (w1, rest) = work.split_at_mut(SCHEDULE);
+        let guard = Working { bytes: work };
+        let (w1, rest) = guard.bytes.split_at_mut(SCHEDULE);
+        let (w2, _) = rest.split_at_mut(SCHEDULE);
         let mut text = content;
-        let v = seal_under(key, &name, &mut text, w1, &mut rest[0..SCHEDULE]);
+        let v = seal_under(key, &name, &mut text, w1, w2);
         put(out, 0, &v);
         put(out, 16, &text);
     }
@@ -156,10 +157,12 @@ impl Wrap for Siv {
         bytes: &[u8],
         work: &mut [u8],
     ) -> Option<[u8; 32]> {
-        let (w1, rest) = work.split_at_mut(SCHEDULE);
+        let guard = Working { bytes: work };
+        let (w1, rest) = guard.bytes.split_at_mut(SCHEDULE);
+        let (w2, _) = rest.split_at_mut(SCHEDULE);
         let v = part_of::<16>(bytes, 0);
         let ciphertext = part_of::<32>(bytes, 16);
-        Halves::expand(key, w1, &mut rest[0..SCHEDULE]).open(&name, v, ciphertext)
+        Halves::expand(key, w1, w2).open(&name, v, ciphertext)
     }
 }
 

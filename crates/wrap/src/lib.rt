@@ -40,7 +40,7 @@ pub trait Wrap {
         ensures { result ≡ wrap_length };
 
     // Key, name and working bytes go apart, keys and names by value: that is how other languages will call it.
-    /// Seals `content` over the whole of `out`; may leave anything in `work`.
+    /// Seals `content` over the whole of `out`, and clears `work`.
     fn seal_to(
         &self,
         key: [u8; 32],
@@ -51,9 +51,10 @@ pub trait Wrap {
     )
         requires room { length out.old ≡ wrap_length }
         requires working { 512 ≤ length work.old }
-        ensures { out.new ≡ sealed key name content };
+        ensures written { out.new ≡ sealed key name content }
+        ensures cleared { work.new ≡ wiped work.old };
 
-    /// The content of sealed bytes, if they open; may leave anything in `work`.
+    /// The content of sealed bytes, if they open; clears `work`.
     fn open_from(
         &self,
         key: [u8; 32],
@@ -63,10 +64,11 @@ pub trait Wrap {
     ) -> Option<[u8; 32]>
         requires whole { length bytes.now ≡ wrap_length }
         requires working { 512 ≤ length work.old }
-        ensures { result ≡ opened key name bytes.now };
+        ensures answer { result ≡ opened key name bytes.now }
+        ensures cleared { work.new ≡ wiped work.old };
 
     /// Seals `content` at the front of `out`, and clears `work`.
-    fn seal(
+    final fn seal(
         &self,
         key: [u8; 32],
         name: [u8; 10],
@@ -78,11 +80,11 @@ pub trait Wrap {
         ensures written { out.new ≡ seal_leaves wrap_length (sealed key name content) out.old work.old }
         ensures cleared { work.new ≡ wiped work.old }
     {
-        let needed = self.sealed_len();
-        if work.len() < WORKING_BYTES {
+        let guard = Working { bytes: work };
+        if guard.bytes.len() < WORKING_BYTES {
             return Err(WrapFault::ShortWorking);
         }
-        let guard = Working { bytes: work };
+        let needed = self.sealed_len();
         if out.len() < needed {
             return Err(WrapFault::ShortBuffer { needed });
         }
@@ -91,7 +93,7 @@ pub trait Wrap {
     }
 
     /// Opens `bytes`, writes their content to `place`, and clears `work`.
-    fn open(
+    final fn open(
         &self,
         key: [u8; 32],
         name: [u8; 10],
@@ -103,10 +105,10 @@ pub trait Wrap {
         ensures written { place.new ≡ open_leaves wrap_length bytes.now (opened key name bytes.now) place.old work.old }
         ensures cleared { work.new ≡ wiped work.old }
     {
-        if work.len() < WORKING_BYTES {
+        let guard = Working { bytes: work };
+        if guard.bytes.len() < WORKING_BYTES {
             return Err(WrapFault::ShortWorking);
         }
-        let guard = Working { bytes: work };
         if bytes.len() != self.sealed_len() {
             return Err(WrapFault::DoesNotOpen);
         }

@@ -1,16 +1,21 @@
 //! The guard over working bytes.
-ghost use Rattle.std.specs.Prelude.{◌≡◌, length, replicate};
+ghost use Rattle.std.specs.Prelude.{◌≡◌};
+ghost use Rattle.wrap.specs.Calls.{wiped};
 
-/// Working bytes, lent to a call: they hold zeros again whichever way the call ends.
+use crate::WORKING_BYTES;
+
+/// Working bytes, lent to a call: where there are enough of them, they hold zeros again whichever way the call ends.
 pub struct Working<'a> {
     pub bytes: &'a mut [u8],
 }
 
 impl Drop for Working<'_> {
     fn drop(self)
-        ensures { self.exit.0.now ≡ replicate (length self.entry.bytes.now) 0 }
+        ensures { self.exit.0.now ≡ wiped self.entry.bytes.now }
     {
-        self.bytes.fill(0);
+        if self.bytes.len() >= WORKING_BYTES {
+            self.bytes.fill(0);
+        }
         let Working { bytes: _ } = self;
     }
 }

@@ -12,7 +12,7 @@ use byte_strings::part_of;
 use cmac::mac;
 use hex_text::decode;
 use kw::KeyWrap;
-use siv::{Siv, seal_under};
+use siv::{Halves, Siv};
 use std::alloc::Global;
 use wrap::{Kind, Wrap};
 
@@ -92,7 +92,7 @@ fn synthetic(key: [u8; 32], string: &[u8], text: &mut [u8]) -> [u8; 16]
 {
     let mut w1 = [0u8; 176];
     let mut w2 = [0u8; 176];
-    seal_under(key, string, text, &mut w1, &mut w2)
+    Halves::expand(key, &mut w1, &mut w2).seal_in_place(string, text)
 }
 
 fn seal_with<W: Wrap>(

@@ -1,9 +1,9 @@
 //! The writer of rekey files: a change of keys, sealed into a lent buffer.
 #![tactic(auto)]
 
-ghost use Rattle.std.specs.Prelude.{◌≡◌};
+ghost use Rattle.std.specs.Prelude.{◌≡◌, ◌≤◌};
 ghost use Rattle.refusal.specs.Refusals.{told};
-ghost use Rattle.rekey.specs.Files.{written};
+ghost use Rattle.rekey.specs.Files.{written, file_size};
 ghost use Rattle.wrap.specs.Calls.{wiped};
 ghost use Rattle.writer.specs.Refusals.{refusal_of};
 ghost use Rattle.writer.specs.Calls.{file_of, size_of, write_verdict, write_leaves};
@@ -18,12 +18,21 @@ mod sections;
 pub use change::Change;
 pub use fault::WriteFault;
 
+/// How many bytes a file of so many nodes and wraps has.
+pub fn file_len<W: Wrap>(wrap: &W, nodes: usize, wraps: usize) -> usize
+    requires nodes { nodes ≤ 127 }
+    requires wraps { wraps ≤ 896 }
+    ensures { result ≡ file_size W.wrap_length nodes wraps }
+{
+    10 + nodes + wraps * (6 + wrap.sealed_len())
+}
+
 impl Change<'_> {
     /// How many bytes its file has.
     pub fn size<W: Wrap>(self, wrap: &W) -> usize
         ensures { result ≡ size_of W.wrap_length self.entry }
     {
-        10 + self.nodes.len() + self.plan.len() * (6 + wrap.sealed_len())
+        file_len(wrap, self.nodes.len(), self.plan.len())
     }
 
     /// Writes its file to the front of `file`, clears `work`, and answers how many bytes the file has.
@@ -37,15 +46,15 @@ impl Change<'_> {
         ensures written { file.new ≡ write_leaves (size_of W.wrap_length self.entry) (written (file_of W.wrap_kind W.sealed self.entry)) file.old work.old }
         ensures cleared { work.new ≡ wiped work.old }
     {
-        if work.len() < WORKING_BYTES {
+        let guard = Working { bytes: work };
+        if guard.bytes.len() < WORKING_BYTES {
             return Err(WriteFault::ShortWorking);
         }
-        let guard = Working { bytes: work };
         let needed = self.size(wrap);
         if file.len() < needed {
             return Err(WriteFault::ShortFile { needed });
         }
-        self.put_file(wrap, &mut file[0..needed], guard.bytes);
+        self.write_to(wrap, &mut file[0..needed], guard.bytes);
         Ok(needed)
     }
 }

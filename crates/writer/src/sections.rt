@@ -5,12 +5,13 @@ ghost use Rattle.byte_strings.specs.Numbers.{big2};
 ghost use Rattle.keys.specs.Names.{held};
 ghost use Rattle.rekey.specs.Files.{head_bytes, nodes_bytes, wrap_bytes, written};
 ghost use Rattle.rekey.specs.Sealing.{seal_pair};
+ghost use Rattle.wrap.specs.Calls.{wiped};
 ghost use Rattle.writer.specs.Calls.{file_of, size_of};
 
 use crate::change::Change;
 use keys::wrap_name;
 use tree::Pair;
-use wrap::Wrap;
+use wrap::{Working, Wrap};
 
 impl Change<'_> {
     // The head, section 1, and how many wraps section 2 has.
@@ -63,15 +64,17 @@ impl Change<'_> {
         }
     }
 
-    /// The whole file.
+    /// Writes its file over the whole of `file`, and clears `work`.
     #[tactic(auto, using(crate::proofs::Whole::whole))]
-    pub(crate) fn put_file<W: Wrap>(self, wrap: &W, file: &mut [u8], work: &mut [u8])
+    pub fn write_to<W: Wrap>(self, wrap: &W, file: &mut [u8], work: &mut [u8])
         requires room { length file.old ≡ size_of W.wrap_length self }
         requires working { 512 ≤ length work.old }
-        ensures { file.new ≡ written (file_of W.wrap_kind W.sealed self.entry) }
+        ensures written { file.new ≡ written (file_of W.wrap_kind W.sealed self.entry) }
+        ensures cleared { work.new ≡ wiped work.old }
     {
+        let guard = Working { bytes: work };
         let (front, section) = file.split_at_mut(10 + self.nodes.len());
         self.put_front(wrap.kind(), front);
-        self.put_wraps(wrap, section, work);
+        self.put_wraps(wrap, section, guard.bytes);
     }
 }

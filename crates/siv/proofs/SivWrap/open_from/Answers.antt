@@ -3,8 +3,8 @@ use Rattle.std.proofs.lemmas.List.{length-drop, take_all}
 use Rattle.siv.specs.Siv.{decrypt_parts}
 use Rattle.siv.proofs.SivWrap.open_from.Goals as goal
 
-pub returns : goal.returns
-returns c =
+pub returns-clause-answer : goal.returns-clause-answer
+returns-clause-answer c =
     let z = c.args.bytes.now in
     let all : length (drop 16 c.args.bytes.now) ≤ 32 = omega (arith, length-drop 16 c.args.bytes.now) in
     let ciphertext = c.part_of-ciphertext.ensures ∙ take_all 32 (drop 16 z) all in

@@ -2,8 +2,8 @@ use Rattle.std.proofs.Common.{◌≡◌, ◌+◌, length, ◌∙◌, arith, rule
 use Rattle.byte_strings.proofs.Overs.{written_two}
 use Rattle.siv.proofs.SivWrap.seal_to.Goals as goal
 
-pub returns : goal.returns
-returns c =
+pub returns-clause-written : goal.returns-clause-written
+returns-clause-written c =
     let v = c.seal_under-v.result in
     let t = c.seal_under-v.new.text in
     let hv : length c.seal_under-v.result ≡ 16 = search rules in
