@@ -1,5 +1,5 @@
 -- The worked examples of a server, each computed.
-use Rattle.std.proofs.Common.{◌≡◌, ℕ, ◌≤◌, ◌<◌, Bool, true, false, cond, List, [], ◌∷◌, map, length, refl, ap, ap₂, ◌∙◌, arith}
+use Rattle.std.proofs.Common.{◌≡◌, ℕ, ◌≤◌, ◌<◌, true, false, List, [], ◌∷◌, map, length, refl, ap, ap₂, ◌∙◌, arith}
 use Rattle.std.specs.Prelude.{Ok, nat_lt}
 use Rattle.std.proofs.lemmas.Bool.{le-ltb, lt-ltb}
 use Rattle.refusal.specs.Refusals.{Verdict, refused}
@@ -11,11 +11,12 @@ use Rattle.tree.specs.Rows.{stands, changed, occupied, changed_nodes}
 use Rattle.rules.specs.Rules.{candidates, pairs_for, plan, key_oriented}
 use Rattle.rekey.specs.Files.{file_size}
 use Rattle.group.specs.declared.state.Published.{Published}
+use Rattle.group.specs.declared.state.State.{State}
 use Rattle.group.specs.States.{new_state, row}
 use Rattle.group.specs.Draws.{arrival_leaves, drawn}
 use Rattle.group.specs.Calls.{Publishing, Strategy}
 use Rattle.group.specs.Notes.{admit_verdict, remove_verdict}
-use Rattle.group.specs.Publishings.{plan_of, size_of, told_of, and_then, file_verdict, publish_verdict}
+use Rattle.group.specs.Publishings.{plan_of, size_of, told_of, and_then, lent_verdict, file_verdict, publish_verdict}
 use Rattle.examples.specs.Examples.{first, sizes, file_bytes, three}
 use Rattle.examples.specs.Servers.{one_noted, last_noted}
 use Rattle.examples.proofs.Worked as worked
@@ -86,17 +87,15 @@ pub last_drawn : (material : List ℕ) → drawn (row (last_noted material)) ≡
 last_drawn material = ap drawn (departure_row material) ∙ departure_drawn
 
 -- with enough working bytes and too little material, no further check counts
-short_material : (few lacking : Bool) (d e : ℕ) (further : Verdict (Unit {0})) (next : Verdict Published) → few ≡ false → lacking ≡ true → d ≡ e →
-    and_then (cond few (refused 9 []) (cond lacking (refused 10 (d ∷ [])) further)) next ≡ refused 10 (e ∷ [])
-short_material few lacking d e further next f l h =
-    ap₂ (λ (a b : Bool). and_then (cond a (refused 9 []) (cond b (refused 10 (d ∷ [])) further)) next) f l
-    ∙ ap (λ (k : ℕ). refused {A = Published} 10 (k ∷ [])) h
+short_material : (s : State) (p : Publishing) (e : ℕ) → tight p.work ≡ false → nat_lt (length p.material) (drawn (row s)) ≡ true → drawn (row s) ≡ e →
+    lent_verdict s p ≡ refused 10 (e ∷ [])
+short_material s p e few lacking h = rw few (rw lacking (ap (λ (k : ℕ). refused 10 (k ∷ [])) h))
 
 pub a_byte_short : (p : Publishing) → 512 ≤ length p.work → length p.material ≡ 255 → publish_verdict one_noted p ≡ refused 10 (256 ∷ [])
 a_byte_short p work material =
     let less : length p.material < drawn (row one_noted) = omega (arith, material, one_arrival) in
-    short_material (tight p.work) (nat_lt (length p.material) (drawn (row one_noted))) (drawn (row one_noted)) 256 _ (file_verdict one_noted p)
-    (le-ltb (length p.work) 512 work) (lt-ltb (length p.material) (drawn (row one_noted)) less) one_arrival
+    ap (λ (v : Verdict (Unit {0})). and_then v (file_verdict one_noted p))
+    (short_material one_noted p 256 (le-ltb (length p.work) 512 work) (lt-ltb (length p.material) (drawn (row one_noted)) less) one_arrival)
 
 arrival_wraps : length (plan key_oriented (first (Arrives ∷ []))) ≡ 7
 unfolding first within nodes leaves inners stands changed occupied changed_nodes candidates pairs_for plan
@@ -106,17 +105,14 @@ arrival_changes : length (changed_nodes (first (Arrives ∷ []))) ≡ 7
 unfolding first within nodes leaves inners stands changed changed_nodes
 arrival_changes = refl
 
--- the checks of what is lent, before the plan is written
-abbrev lent : Bool → Bool → Bool → ℕ → ℕ → Verdict (Unit {0})
-lent few lacking narrow d w = cond few (refused 9 []) (cond lacking (refused 10 (d ∷ [])) (cond narrow (refused 11 (w ∷ [])) (Ok tt)))
+-- where nothing is short, the checks of what is lent pass
+all_fit : (s : State) (p : Publishing) → tight p.work ≡ false → nat_lt (length p.material) (drawn (row s)) ≡ false → nat_lt (length p.pairs) (length (plan_of s p)) ≡ false →
+    lent_verdict s p ≡ Ok tt
+all_fit s p few lacking narrow = rw few (rw lacking (rw narrow refl))
 
--- where nothing is short, the file is told
-told_where_all_fit : (few lacking narrow full : Bool) (d w b : ℕ) (it told : Published) → few ≡ false → lacking ≡ false → narrow ≡ false → full ≡ false → it ≡ told →
-    and_then (lent few lacking narrow d w) (cond full (refused 12 (b ∷ [])) (Ok it)) ≡ Ok told
-told_where_all_fit few lacking narrow full d w b it told f l n u h =
-    ap₂ (λ (x y : Bool). and_then (lent x y narrow d w) (cond full (refused 12 (b ∷ [])) (Ok it))) f l
-    ∙ ap₂ (λ (x y : Bool). and_then (lent false false x d w) (cond y (refused 12 (b ∷ [])) (Ok it))) n u
-    ∙ ap (λ (x : Published). Ok x) h
+-- and the file is told
+file_told : (s : State) (p : Publishing) (told : Published) → nat_lt (length p.file) (size_of s p) ≡ false → told_of s p ≡ told → file_verdict s p ≡ Ok told
+file_told s p told full h = rw full (ap (λ (x : Published). Ok x) h)
 
 -- what is told of epoch 1
 abbrev first_told : ℕ → ℕ → ℕ → ℕ → Published
@@ -135,7 +131,6 @@ first_epoch p strategy forty work material pairs file =
     let enough : drawn (row one_noted) ≤ length p.material = omega (arith, material, one_arrival) in
     let wide : length (plan_of one_noted p) ≤ length p.pairs = omega (arith, pairs, wraps) in
     let room : size_of one_noted p ≤ length p.file = omega (arith, file, size) in
-    told_where_all_fit (tight p.work) (nat_lt (length p.material) (drawn (row one_noted))) (nat_lt (length p.pairs) (length (plan_of one_noted p))) (nat_lt (length p.file) (size_of one_noted p))
-    (drawn (row one_noted)) (length (plan_of one_noted p)) (size_of one_noted p) (told_of one_noted p) (first_told 40 7 7 256)
-    (le-ltb (length p.work) 512 work) (le-ltb (length p.material) (drawn (row one_noted)) enough) (le-ltb (length p.pairs) (length (plan_of one_noted p)) wide)
-    (le-ltb (length p.file) (size_of one_noted p) room) it
+    ap (λ (v : Verdict (Unit {0})). and_then v (file_verdict one_noted p))
+    (all_fit one_noted p (le-ltb (length p.work) 512 work) (le-ltb (length p.material) (drawn (row one_noted)) enough) (le-ltb (length p.pairs) (length (plan_of one_noted p)) wide))
+    ∙ file_told one_noted p (first_told 40 7 7 256) (le-ltb (length p.file) (size_of one_noted p) room) it

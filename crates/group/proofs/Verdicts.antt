@@ -11,7 +11,7 @@ use Rattle.group.specs.States.{cradle, row, held_by, noted}
 use Rattle.group.specs.Draws.{drawn}
 use Rattle.group.specs.Calls.{Publishing}
 use Rattle.group.specs.Notes.{is_serial, is_cradle, admit_free, admit_verdict}
-use Rattle.group.specs.Publishings.{plan_verdict, file_verdict, publish_verdict, and_then}
+use Rattle.group.specs.Publishings.{due_verdict, lent_verdict, plan_verdict, file_verdict, publish_verdict, and_then}
 use Rattle.group.specs.Sound.{Cradled}
 
 module _ {A : Type 0} where
@@ -22,6 +22,11 @@ module _ {A : Type 0} where
   pub passed : (b : Bool) (f : Refusal) (next : Verdict A) (a : A) → cond b (Err f) next ≡ Ok a → (b ≡ false) × (next ≡ Ok a)
   passed true f next a e = absurd (refused_done f a e)
   passed false f next a e = (refl, e)
+
+  -- both verdicts pass
+  pub both_passed : (v : Verdict (Unit {0})) (next : Verdict A) (a : A) → and_then v next ≡ Ok a → (v ≡ Ok tt) × (next ≡ Ok a)
+  both_passed (Ok u) next a e = (refl, e)
+  both_passed (Err f) next a e = absurd (refused_done f a e)
 
   -- what holds of what a call leaves holds of the new, if it was done, and of the old
   pub left_either : {B : Type 0} (P : B → Type 0) (v : Verdict A) (new old : B) → ((a : A) → v ≡ Ok a → P new) → P old → P (if_done v new old)
@@ -46,16 +51,13 @@ admit_passed s x c e =
 -- something is noted, there is an epoch left, and the material is enough
 pub plan_passed : (s : State) (p : Publishing) → plan_verdict s p ≡ Ok tt → (noted s ≡ true) × ((s.epoch < 1000000) × (drawn (row s) ≤ length p.material))
 plan_passed s p e =
-    let a = passed (not (noted s)) _ _ _ e in
+    let v = both_passed (due_verdict s) (lent_verdict s p) tt e in
+    let a = passed (not (noted s)) _ _ _ v.0 in
     let b = passed (leb 1000000 s.epoch) _ _ _ a.1 in
-    let c = passed (tight p.work) _ _ _ b.1 in
+    let c = passed (tight p.work) _ _ _ v.1 in
     let d = passed (ltb (length p.material) (drawn (row s))) _ _ _ c.1 in
     (not-false (noted s) a.0, (leb-false 1000000 s.epoch b.0, ltb-false (length p.material) (drawn (row s)) d.0))
 
 -- a publishing that is done passed the checks before its plan
 pub publish_passed : (s : State) (p : Publishing) (a : Published) → publish_verdict s p ≡ Ok a → plan_verdict s p ≡ Ok tt
-publish_passed s p a e = go (plan_verdict s p) e
-  where
-    go : (v : Verdict (Unit {0})) → and_then v (file_verdict s p) ≡ Ok a → v ≡ Ok tt
-    go (Ok u) h = refl
-    go (Err f) h = absurd (refused_done f a h)
+publish_passed s p a e = (both_passed (plan_verdict s p) (file_verdict s p) a e).0

@@ -95,11 +95,7 @@ module _ (w : Site) (sound : Sound w.server) (old : Kept w) where
 
 -- an accepted plan has something noted
 noted_of : (s : State) (p : Publishing) → plan_verdict s p ≡ Ok tt → noted s ≡ true
-noted_of s p e = go (noted s) _ e
-  where
-    go : (b : Bool) (rest : Verdict (Unit {0})) → cond (not b) (refused 7 []) rest ≡ Ok tt → b ≡ true
-    go true rest h = refl
-    go false rest h = cc
+noted_of s p e = (plan_passed s p e).0
 
 module _ (laws : StateLaws) (w : Site) (sound : Sound w.server) (old : Kept w) (p : Publishing) (given : Given (publish p)) where
   abbrev s : State
