@@ -9,7 +9,7 @@ pub four : (a : List ℕ) → length a ≡ 4 → a ≡ get_or a 0 0 ∷ get_or a
 four a h = fill_by_all (λ i. get_or a i 0) a 4 0 h (λ k l. refl)
 
 -- a part of a front is the part of the whole
-part_front : (n at end : ℕ) (w : List ℕ) → at + n ≤ end → part n at (take end w) ≡ part n at w
+pub part_front : (n at end : ℕ) (w : List ℕ) → at + n ≤ end → part n at (take end w) ≡ part n at w
 part_front n at end w h =
     let rest : at + (end - at) ≡ end = omega arith in
     ap (λ m. take n (drop at (take m w))) (sym rest)

@@ -8,7 +8,7 @@ ghost use Rattle.aes.specs.KeySchedule.{key_length, sub_word, rot_word, rcon, po
 ghost use Rattle.round.specs.Rounds.{round_of, inv_round};
 ghost use Rattle.aes.specs.Cipher.{round_key, encrypt, decrypt};
 ghost use Rattle.aes.specs.Keyed.{enciphered, deciphered};
-ghost use Rattle.aes.specs.Laws.{AesPermutesBlocks};
+ghost use Rattle.aes.specs.Laws.{EachKeyHasOneSchedule, AesPermutesBlocks};
 
 mod schedule;
 
@@ -201,6 +201,11 @@ pub fn decrypt_block<const N: usize>(key: [u8; N], block: [u8; 16]) -> [u8; 16]
     let mut w = [0u8; 240];
     Schedule::expand(key, &mut w[0..4 * N + 112]).decipher(block)
 }
+
+/// The key expansion is the one schedule that the standard describes word by word.
+pub fn each_key_has_one_schedule()
+    ensures { EachKeyHasOneSchedule }
+{}
 
 /// Decrypting undoes encrypting and encrypting undoes decrypting, for every key and block.
 pub fn aes_permutes_blocks()
