@@ -1,5 +1,5 @@
 -- Going up the tree, by counts of halvings.
-use Rattle.std.proofs.Common.{◌≡◌, ℕ, zero, suc, ◌+◌, ◌-◌, ◌*◌, ◌/◌, ◌<◌, ◌≤◌, Bool, true, ◌&&◌, eqb, ltb, leb, ◌⊎◌, sym, refl, ap, ◌∙◌, inl, inr, suc-add, zero-add, arith}
+use Rattle.std.proofs.Common.{◌≡◌, ℕ, zero, suc, ◌+◌, ◌-◌, ◌*◌, ◌/◌, ◌<◌, ◌≤◌, Bool, true, ◌&&◌, eqb, ltb, leb, ◌⊎◌, Decides, sym, refl, ap, ◌∙◌, inl, inr, suc-add, zero-add, arith}
 use Rattle.std.specs.List.{range_with_len}
 use Rattle.std.proofs.lemmas.Bool.{cases_eq, cases_lt, and_from, and_parts, eq-eqb, eqb-true, le-leb, lt-ltb, leb-true, ltb-true}
 use Rattle.std.proofs.lemmas.Bool.Decides.{same_from_decides}
@@ -60,6 +60,12 @@ beneath_is m n e = let w = within_is (m / 2) n e in (w.0, sym (halved_first w.0 
 pub beneath_from : (m n : ℕ) → m < 256 → 0 < n → Beneath m n → beneath m n ≡ true
 beneath_from m n h l (k, e) = within_from (m / 2) n (omega arith) l (k, halved_first k m ∙ e)
 
+pub within_decides : (m n : ℕ) → m < 256 → Decides (within m n) ((0 < n) × Within m n)
+within_decides m n h = (λ e. (within_node m n e, within_is m n e), λ w. within_from m n h w.0 w.1)
+
+pub beneath_decides : (m n : ℕ) → m < 256 → Decides (beneath m n) ((0 < n) × Beneath m n)
+beneath_decides m n h = (λ e. (within_node (m / 2) n e, beneath_is m n e), λ b. beneath_from m n h b.0 b.1)
+
 pub leaf_is : (u : ℕ) → is_leaf u ≡ true → Leaf u
 leaf_is u e = let p = and_parts (leb 128 u) (ltb u 256) e in (leb-true 128 u p.0, ltb-true u 256 p.1)
 
@@ -71,6 +77,12 @@ inner_is n e = let p = and_parts (ltb 0 n) (ltb n 128) e in (ltb-true 0 n p.0, l
 
 pub inner_from : (n : ℕ) → Inner n → is_inner n ≡ true
 inner_from n i = and_from (ltb 0 n) (ltb n 128) (lt-ltb 0 n i.0) (lt-ltb n 128 i.1)
+
+pub leaf_decides : (u : ℕ) → Decides (is_leaf u) (Leaf u)
+leaf_decides u = (leaf_is u, leaf_from u)
+
+pub inner_decides : (n : ℕ) → Decides (is_inner n) (Inner n)
+inner_decides n = (inner_is n, inner_from n)
 
 -- A walk upwards tells it: on while the number is greater, and then a look.
 
