@@ -92,7 +92,8 @@ module _ (nk : ℕ) (some : 1 ≤ nk) (key : List ℕ) where
     | inl f ↦ a.key_words i f ∙ sym (b.key_words i f)
     | inr g ↦
         a.later_words i g l
-        ∙ ap₂ (λ x y. xors x (temp nk i y)) (one_by_rules n w v a b k (i - nk) (omega arith) (omega arith)) (one_by_rules n w v a b k (i - 1) (omega arith) (omega arith))
+        ∙ ap₂ (λ x y. xors x (temp nk i y)) (one_by_rules n w v a b k (i - nk) (omega arith) (omega arith))
+          (one_by_rules n w v a b k (i - 1) (omega arith) (omega arith))
         ∙ sym (b.later_words i g l)
   ]
 

@@ -1,4 +1,4 @@
--- What holds of key schedules, and that AES and its inverse undo each other on every block, under every key of bytes.
+-- What holds of key schedules, and of AES and its inverse.
 use Rattle.std.specs.Prelude.{◌≡◌, ℕ, ◌+◌, ◌-◌, ◌*◌, ◌<◌, ◌≤◌, List, length}
 use Rattle.byte_strings.specs.Strings.{Bytes, Sized, xors}
 use Rattle.aes.specs.KeySchedule.{word, temp, key_expansion}
@@ -10,7 +10,8 @@ pub record IsSchedule (nk : ℕ) (key w : List ℕ) : Type 0 where
   pub size : length w ≡ 16 * (nk + 7)
   -- the first nk words are the key's
   pub key_words : (i : ℕ) → i < nk → word w i ≡ word key i
-  -- each later word is the one nk places before it, to which what is made of the word before is added
+  -- each later word is the one nk places before it, and to that is added what the standard makes of
+  -- the word before
   pub later_words : (i : ℕ) → nk ≤ i → i < 4 * (nk + 7) →
       word w i ≡ xors (word w (i - nk)) (temp nk i (word w (i - 1)))
 
@@ -21,7 +22,8 @@ pub record HasOneSchedule (nk : ℕ) (key : List ℕ) : Type 0 where
 
 -- a key of one word or more; AES has 4, 6 and 8
 abbrev pub EachKeyHasOneSchedule : Type 0
-EachKeyHasOneSchedule = (nk : ℕ) (key : List ℕ) → 1 ≤ nk → length key ≡ 4 * nk → HasOneSchedule nk key
+EachKeyHasOneSchedule =
+    (nk : ℕ) (key : List ℕ) → 1 ≤ nk → length key ≡ 4 * nk → HasOneSchedule nk key
 
 -- of a key of bytes: AES and its inverse undo each other, and both make blocks of blocks
 pub record Permutes (key : List ℕ) : Type 0 where
