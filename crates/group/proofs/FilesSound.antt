@@ -77,6 +77,6 @@ pub file_sound : (s : State) (p : Publishing) → Given (publish p) → Sound s 
 file_sound s p g sound e =
     let h = plan_passed s p e in
     let then = publish_sound s p.material sound h.0 h.1.0 g.1.1 h.1.1 in
-    plan_is_sound p.wrap.kind p.wrap.length p.wrap.seals (omega (arith, g.1.0.kind_range)) g.1.0.sealed_sized (row s) (plan_of s p) (s.epoch + 1) (held s.nodes)
+    plan_is_sound p.wrap.kind p.wrap.length p.wrap.seals g.1.0.kind_range g.1.0.sealed_sized (row s) (plan_of s p) (s.epoch + 1) (held s.nodes)
     (held (published s p.material).nodes) (noted_root s sound h.0) (g.0 (row s) (length-map s.cradles code_of ∙ sound.cradle_count)) (omega arith, omega arith)
     (timely s p.material sound then)

@@ -28,7 +28,7 @@ nodes_fall bs at before (suc (suc left)) h e =
     subst (λ (l : List ℕ). Falls before (take (suc (suc left)) l)) (sym (drop_byte bs at (at + 1) refl n.inside))
     (falls_more before (byte_at bs at) (take (suc left) (drop (at + 1) bs)) n.below (nodes_fall bs (at + 1) (byte_at bs at) (suc left) (omega arith) n.more))
 
-listed_in : (nodes : List ℕ) (v : ℕ) → listed nodes v ≡ true → In v nodes
+pub listed_in : (nodes : List ℕ) (v : ℕ) → listed nodes v ≡ true → In v nodes
 listed_in nodes v e = let w = some_who (λ n. eqb n v) nodes e in subst (λ (n : ℕ). In n nodes) (eqb-true w.0 v w.1.1) w.1.0
 
 -- a wrap without fault
@@ -55,8 +55,8 @@ module _ (L epoch : ℕ) (nodes bs : List ℕ) (hb : Bytes bs) where
   wraps_sound at (suc k) e w (inl q) = subst (λ (v : Wrapped). SoundWrap L epoch nodes v) (sym q) (wrap_sound L epoch nodes bs hb at (wraps_pass L epoch nodes bs at k e).0)
   wraps_sound at (suc k) e w (inr i) = wraps_sound (at + (6 + L)) k (wraps_pass L epoch nodes bs at k e).1 w i
 
-pub accepted_was_written : (kind L : ℕ) (bs : List ℕ) → Bytes bs → layout_fault kind L bs ≡ None → WasWritten kind L bs
-accepted_was_written kind L bs hb e =
+pub accepted_was_written : (kind L : ℕ) (bs : List ℕ) → 1 ≤ kind → Bytes bs → layout_fault kind L bs ≡ None → WasWritten kind L bs
+accepted_was_written kind L bs some hb e =
     let a = none_both _ _ (sym (at_values kind L bs _ _ _ refl refl refl) ∙ e) in
     let b = none_both _ _ a.1 in
     let d = none_both _ _ b.1 in
@@ -64,7 +64,7 @@ accepted_was_written kind L bs hb e =
     let at = 10 + byte_at bs 7 in
     record {
       sound = record {
-        kind_byte = at_byte bs 2 hb;
+        kind_range = (omega (arith, h.third, some), omega (arith, at_byte bs 2 hb));
         epoch_range = h.epoch;
         nodes_fall = nodes_fall bs 8 128 (byte_at bs 7) h.nodes.0 b.0;
         few_wraps = subst (λ (n : ℕ). n ≤ 896) (sym (wraps_many L bs at (wrap_count bs))) (count_ends bs (8 + byte_at bs 7) d.0).1;

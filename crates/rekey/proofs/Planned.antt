@@ -72,9 +72,11 @@ module _ (L : ℕ) (seals : Sealing) (row : List Code) (epoch : ℕ) (former pre
         sealed_bytes = to _ _ _ (t.former_keys o h) (name_sized o n (former o).made epoch h k) (t.present_keys n k);
       }
 
-pub plan_is_sound : (kind L : ℕ) (seals : Sealing) → kind < 256 → SealsTo L seals → (row : List Code) (plan : List Pair) (epoch : ℕ) (former present : Keys) → changed row 1 ≡ true → Lawful row plan → (1 ≤ epoch) × (epoch ≤ 1000000) → Timely row epoch former present → Sound L (rekey_of kind seals epoch (changed_nodes row) plan former present)
-plan_is_sound kind L seals byte to row plan epoch former present one lawful range t = record {
-  kind_byte = byte;
+pub plan_is_sound : (kind L : ℕ) (seals : Sealing) → (1 ≤ kind) × (kind ≤ 255) → SealsTo L seals →
+    (row : List Code) (plan : List Pair) (epoch : ℕ) (former present : Keys) → changed row 1 ≡ true → Lawful row plan →
+    (1 ≤ epoch) × (epoch ≤ 1000000) → Timely row epoch former present → Sound L (rekey_of kind seals epoch (changed_nodes row) plan former present)
+plan_is_sound kind L seals kinds to row plan epoch former present one lawful range t = record {
+  kind_range = kinds;
   epoch_range = range;
   nodes_fall = changed_fall row one;
   few_wraps = omega (arith, length-map plan (seal_pair seals epoch former present), lawful.few);

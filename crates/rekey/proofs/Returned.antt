@@ -23,7 +23,7 @@ module _ (L : ℕ) (f : Rekey) (s : Sound L f) where
   all_bytes =
       let many = falls_few 128 f.nodes s.nodes_fall in
       let of_nodes = falls_bytes 128 f.nodes (omega arith) s.nodes_fall in
-      let head : Bytes (head_bytes f.kind f.epoch) = (lit< tt, (lit< tt, (s.kind_byte, big4_bytes f.epoch))) in
+      let head : Bytes (head_bytes f.kind f.epoch) = (lit< tt, (lit< tt, (omega (arith, s.kind_range.1), big4_bytes f.epoch))) in
       append_bytes (head_bytes f.kind f.epoch) (nodes_bytes f.nodes ++ wraps_bytes f.wraps) head
       (append_bytes (nodes_bytes f.nodes) (wraps_bytes f.wraps) (omega arith, of_nodes)
       (append_bytes (big2 (length f.wraps)) (flat_map wrap_bytes f.wraps) (big2_bytes (length f.wraps)) (bytes_of_wraps L f.epoch f.nodes of_nodes f.wraps s.each_wrap)))

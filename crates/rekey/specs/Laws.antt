@@ -30,7 +30,7 @@ pub record SoundWrap (L epoch : ℕ) (nodes : List ℕ) (w : Wrapped) : Type 0 w
 
 -- a file that may be written
 pub record Sound (L : ℕ) (f : Rekey) : Type 0 where
-  pub kind_byte : f.kind < 256
+  pub kind_range : (1 ≤ f.kind) × (f.kind ≤ 255)
   pub epoch_range : (1 ≤ f.epoch) × (f.epoch ≤ 1000000)
   pub nodes_fall : Falls 128 f.nodes
   pub few_wraps : length f.wraps ≤ 896
@@ -64,10 +64,11 @@ SealsTo L seals = (k n c : List ℕ) → Sized 32 k → Sized 10 n → Sized 32 
 pub record FileLaws : Type 0 where
   -- what was written is read back
   pub sound_returns : (L : ℕ) (f : Rekey) → Sound L f → Returns L f
-  -- what is accepted was written
-  pub accepted_was_written : (kind L : ℕ) (bs : List ℕ) → Bytes bs → layout_fault kind L bs ≡ None → WasWritten kind L bs
+  -- what is accepted was written, where the kind in use is 1 or more
+  pub accepted_was_written : (kind L : ℕ) (bs : List ℕ) → 1 ≤ kind → Bytes bs →
+      layout_fault kind L bs ≡ None → WasWritten kind L bs
   -- the file of a lawful plan is sound, for any wrap, and so it is read back
-  pub plan_is_sound : (kind L : ℕ) (seals : Sealing) → kind < 256 → SealsTo L seals →
+  pub plan_is_sound : (kind L : ℕ) (seals : Sealing) → (1 ≤ kind) × (kind ≤ 255) → SealsTo L seals →
       (row : List Code) (plan : List Pair) (epoch : ℕ) (former present : Keys) → changed row 1 ≡ true → Lawful row plan →
       (1 ≤ epoch) × (epoch ≤ 1000000) → Timely row epoch former present →
       Sound L (rekey_of kind seals epoch (changed_nodes row) plan former present)
