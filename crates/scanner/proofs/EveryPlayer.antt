@@ -2,6 +2,7 @@
 use Rattle.scanner.specs.Laws.{PlayerLaws}
 use Rattle.scanner.proofs.Shows.{path_shows}
 use Rattle.scanner.proofs.Searches.{found_opens, found_first, none_opens}
+use Rattle.scanner.proofs.Ways.{way_up, way_stops}
 use Rattle.scanner.proofs.Refusals.{refused_keeps}
 use Rattle.scanner.proofs.Readings.{staying_reads, arriving_reads}
 
@@ -10,6 +11,8 @@ player_laws = record {
   found_opens = found_opens;
   found_first = found_first;
   none_opens = none_opens;
+  way_up = way_up;
+  way_stops = way_stops;
   refused_keeps = refused_keeps;
   staying_reads = staying_reads;
   arriving_reads = arriving_reads;

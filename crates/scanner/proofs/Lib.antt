@@ -5,4 +5,5 @@ pub mod Shows
 pub mod Openings
 pub mod Climbs
 pub mod Readings
+pub mod Ways
 pub mod EveryPlayer

@@ -1,22 +1,24 @@
 -- What a player finds and reads, and what its refusals keep.
-use Rattle.std.specs.Prelude.{◌≡◌, ℕ, ◌+◌, ◌<◌, ◌≤◌, true, List, ◌++◌, length, replicate, Some, None, Ok, slice_index_or}
+use Rattle.std.specs.Prelude.{◌≡◌, ℕ, ◌+◌, ◌<◌, ◌≤◌, true, ◌↔◌, List, ◌++◌, length, replicate, Some, None, Ok, Err, slice_index_or}
+use Rattle.refusal.specs.Refusals.{Refusal}
 use Rattle.tree.specs.declared.types.Code.TheVariants.{Stays}
 use Rattle.tree.specs.Tree.{Leaf, halved}
 use Rattle.tree.specs.Rows.{code}
 use Rattle.keys.specs.declared.NodeKey.{NodeKey}
 use Rattle.keys.specs.Names.{Keys, held}
-use Rattle.rekey.specs.Files.{Wrapped, written}
+use Rattle.rekey.specs.Files.{Wrapped, Rekey, written}
 use Rattle.group.specs.declared.state.State.{State}
 use Rattle.group.specs.States.{row}
 use Rattle.group.specs.Draws.{joins}
-use Rattle.group.specs.Calls.{publish, Publishing, Given}
+use Rattle.group.specs.Calls.{KeyWrap, publish, Publishing, Given}
 use Rattle.group.specs.Publishings.{plan_verdict, file_of}
 use Rattle.group.specs.Steps.{published}
 use Rattle.group.specs.Sound.{Sound}
 use Rattle.scanner.specs.declared.found.Found.{Found}
 use Rattle.scanner.specs.Rings.{entry_bytes, ring_bytes, path}
 use Rattle.scanner.specs.Searches.{found_from}
-use Rattle.scanner.specs.Climbs.{no_wrap}
+use Rattle.scanner.specs.Climbs.{no_wrap, followed}
+use Rattle.scanner.specs.Ways.{WayUp, Stops}
 use Rattle.scanner.specs.Players.{reading, show_verdict, Act, Player, is_refused, after, leaves}
 
 -- the wrap of index i has that content, and entry k of the ring is its opener, by node and epoch
@@ -39,6 +41,7 @@ pub record Arriving (s : State) (material : List ℕ) (leaf : ℕ) (ring : List 
   pub arrives : joins (code (row s) leaf) ≡ true
   pub holds : ring ≡ entry_bytes (held (published s material).nodes leaf) ++ replicate 252 0
 
+-- what holds of players, whatever file they are handed
 pub record PlayerLaws : Type 0 where
   -- what the search finds opens, and no wrap before it does; if it finds none, none does
   pub found_opens : (ring : List NodeKey) (leaf node : ℕ) (wraps : List Wrapped) (it : Found) → found_from ring leaf node 0 wraps ≡ Some it →
@@ -47,6 +50,13 @@ pub record PlayerLaws : Type 0 where
       (i k : ℕ) → Opens ring leaf node wraps i k → it.wrap ≤ i
   pub none_opens : (ring : List NodeKey) (leaf node : ℕ) (wraps : List Wrapped) → found_from ring leaf node 0 wraps ≡ None →
       (i k : ℕ) → Opens ring leaf node wraps i k → ⊥
+  -- with any file and a ring of eight entries: the way up is done exactly where the rule comes
+  -- through, and makes of the ring what the rule makes of it
+  pub way_up : (w : KeyWrap) (f : Rekey) (leaf : ℕ) (old : List NodeKey) → length old ≡ 8 →
+      (new : List NodeKey) → (followed w f leaf old ≡ Ok new) ↔ WayUp w f leaf old 8 new
+  -- and it is refused exactly where the rule stops, with that refusal
+  pub way_stops : (w : KeyWrap) (f : Rekey) (leaf : ℕ) (old : List NodeKey) → length old ≡ 8 →
+      (r : Refusal) → (followed w f leaf old ≡ Err r) ↔ Stops w f leaf old r
   -- a refused call leaves the player and its ring as they were
   pub refused_keeps : (a : Act) (p : Player) (ring : List ℕ) → is_refused a p ring ≡ true → (after a p ring ≡ p) × (leaves a p ring ≡ ring)
   -- who stays, and who arrives, reads the file of a publishing, and then holds the keys after the change

@@ -1,5 +1,6 @@
 pub mod Rings
 pub mod Searches
 pub mod Climbs
+pub mod Ways
 pub mod Players
 pub mod Laws
