@@ -17,7 +17,7 @@ use Rattle.group.specs.Calls.{KeyWrap}
 use Rattle.scanner.specs.declared.found.Found.{Found}
 use Rattle.scanner.specs.Searches.{found_from}
 use Rattle.scanner.specs.Climbs.{opening, wrap_of, taken, opened_by, risen, then, climbed, followed}
-use Rattle.scanner.specs.Ways.{so_far, IsRenewed, WayUp, ShutOut, DoesNotOpen, Stops}
+use Rattle.scanner.specs.Ways.{ring_so_far, IsRenewed, WayUp, ShutOut, DoesNotOpen, Stops}
 
 some_same : {A : Type 0} {x y : A} → ◌≡◌ {A = Option A} (Some x) (Some y) → x ≡ y
 some_same e = cc
@@ -53,7 +53,7 @@ module _ (w : KeyWrap) (f : Rekey) (leaf : ℕ) (old : List NodeKey) (eight : le
     node = halved k leaf
 
     -- the ring is the one updated so far
-    is_so_far : ring ≡ so_far k ring old
+    is_so_far : ring ≡ ring_so_far k ring old
     is_so_far = sym (take-append-drop k ring) ∙ ap (λ r. take k ring ++ r) u.rest_stays
 
     entry_old : held ring k ≡ held old k
@@ -84,7 +84,7 @@ module _ (w : KeyWrap) (f : Rekey) (leaf : ℕ) (old : List NodeKey) (eight : le
     renewed is entry by =
         let here : held (set ring k entry) k ≡ entry = get_or-set_same ring k entry unmade (omega (arith, u.size, eight)) in
         let there : (j : ℕ) → j < k → held (set ring k entry) j ≡ held ring j = λ j b. get_or-set_other ring k j entry unmade (λ e. omega arith) in
-        let before : (j : ℕ) → j ≤ k → so_far j ring old ≡ so_far j (set ring k entry) old =
+        let before : (j : ℕ) → j ≤ k → ring_so_far j ring old ≡ ring_so_far j (set ring k entry) old =
           λ j b. ap (λ t. t ++ drop j old) (sym (take-set-le j ring k entry b)) in
         record {
           size = length-set ring k entry ∙ u.size;
@@ -95,10 +95,10 @@ module _ (w : KeyWrap) (f : Rekey) (leaf : ℕ) (old : List NodeKey) (eight : le
             | inr x ↦ there j (omega arith) ∙ u.unlisted_stays j a (omega arith) n
           ];
           listed_renewed = λ j a b i. elim (cases_eq j k) [
-            | inl e ↦ subst (λ (m : ℕ). IsRenewed w f leaf m (so_far m (set ring k entry) old) (held (set ring k entry) m)) (sym e)
-                (subst (IsRenewed w f leaf k (so_far k (set ring k entry) old)) (sym here)
+            | inl e ↦ subst (λ (m : ℕ). IsRenewed w f leaf m (ring_so_far m (set ring k entry) old) (held (set ring k entry) m)) (sym e)
+                (subst (IsRenewed w f leaf k (ring_so_far k (set ring k entry) old)) (sym here)
                 (subst (λ r. IsRenewed w f leaf k r entry) (is_so_far ∙ before k (omega arith)) by))
-            | inr x ↦ subst (IsRenewed w f leaf j (so_far j (set ring k entry) old)) (sym (there j (omega arith)))
+            | inr x ↦ subst (IsRenewed w f leaf j (ring_so_far j (set ring k entry) old)) (sym (there j (omega arith)))
                 (subst (λ r. IsRenewed w f leaf j r (held ring j)) (before j (omega arith)) (u.listed_renewed j a (omega arith) i))
           ];
         }
@@ -152,7 +152,7 @@ module _ (w : KeyWrap) (f : Rekey) (leaf : ℕ) (old : List NodeKey) (eight : le
 
   -- two ways up have the same entries as far as both go
   module _ (i j : ℕ) (a b : List NodeKey) (u : WayUp w f leaf old i a) (v : WayUp w f leaf old j b) where
-    same_so_far : (m : ℕ) → take m a ≡ take m b → so_far m a old ≡ so_far m b old
+    same_so_far : (m : ℕ) → take m a ≡ take m b → ring_so_far m a old ≡ ring_so_far m b old
     same_so_far m t = ap (λ r. r ++ drop m old) t
 
     entry_same : (m : ℕ) → m < i → m < j → take m a ≡ take m b → held a m ≡ held b m
@@ -160,7 +160,7 @@ module _ (w : KeyWrap) (f : Rekey) (leaf : ℕ) (old : List NodeKey) (eight : le
     entry_same (suc m) p q t = elim (cases_Bool (listed f.nodes (halved (suc m) leaf))) [
       | inl e ↦
           let is = listed_in f.nodes (halved (suc m) leaf) e in
-          one_entry (suc m) (so_far (suc m) b old) (held a (suc m)) (held b (suc m))
+          one_entry (suc m) (ring_so_far (suc m) b old) (held a (suc m)) (held b (suc m))
           (subst (λ r. IsRenewed w f leaf (suc m) r (held a (suc m))) (same_so_far (suc m) t) (u.listed_renewed (suc m) (omega arith) p is))
           (v.listed_renewed (suc m) (omega arith) q is)
       | inr e ↦
@@ -215,7 +215,7 @@ module _ (w : KeyWrap) (f : Rekey) (leaf : ℕ) (old : List NodeKey) (eight : le
           let ring : t.ring ≡ s.ring =
             is_so_far t.level t.on_the_way.0 t.on_the_way.1 t.ring t.until_then
             ∙ sym (same_so_far s.level t.level s.ring t.ring s.until_then t.until_then t.level same)
-            ∙ ap (λ k. so_far k s.ring old) level
+            ∙ ap (λ k. ring_so_far k s.ring old) level
             ∙ sym (is_so_far s.level s.on_the_way.0 s.on_the_way.1 s.ring s.until_then) in
           one_why (halved s.level leaf) s.ring r q s.why
           (subst (λ x. Why (halved s.level leaf) x q) ring (subst (λ k. Why (halved k leaf) t.ring q) level t.why))

@@ -14,8 +14,8 @@ use Rattle.scanner.specs.Searches.{found_from}
 use Rattle.scanner.specs.Climbs.{opening, no_wrap}
 
 -- the ring as updated so far: its first k entries are new, and the others are old
-abbrev pub so_far : ℕ → List NodeKey → List NodeKey → List NodeKey
-so_far k new old = take k new ++ drop k old
+abbrev pub ring_so_far : ℕ → List NodeKey → List NodeKey → List NodeKey
+ring_so_far k new old = take k new ++ drop k old
 
 -- the entry that the listed node k halvings up gets, where the player has that ring
 pub record IsRenewed (w : KeyWrap) (f : Rekey) (leaf k : ℕ) (ring : List NodeKey) (entry : NodeKey)
@@ -42,7 +42,7 @@ pub record WayUp (w : KeyWrap) (f : Rekey) (leaf : ℕ) (old : List NodeKey) (k 
       held new j ≡ held old j
   -- the entry of each listed node is renewed by the ring as updated so far
   pub listed_renewed : (j : ℕ) → 1 ≤ j → j < k → In (halved j leaf) f.nodes →
-      IsRenewed w f leaf j (so_far j new old) (held new j)
+      IsRenewed w f leaf j (ring_so_far j new old) (held new j)
 
 -- no wrap of that node has its opener in the ring: 19 with the node
 abbrev pub ShutOut : Rekey → ℕ → ℕ → List NodeKey → Refusal → Type 0
