@@ -1,3 +1,6 @@
+mod Ample
+mod Changes
 mod Worked
 mod Serving
+mod Run
 mod All

@@ -1,3 +1,5 @@
+pub mod Ample
 pub mod Examples
 pub mod Servers
+pub mod Run
 pub mod Worked

@@ -3,8 +3,8 @@
 
 ghost use Rattle.examples.specs.Worked.{WorkedExamples};
 
-/// Two entries of the S-box, the numbers of pairs and bytes of small and of the largest changes, and what a server does in its first
-/// change and in its last.
+/// Two entries of the S-box; the numbers of pairs and bytes of small changes and of the largest; what a server does in its first change
+/// and in its last; and a run, with the book, the player and the keys that it leads to.
 #[tactic(auto, using(crate::proofs::All::worked_examples))]
 pub fn worked_examples_hold()
     ensures { WorkedExamples }
