@@ -24,6 +24,8 @@ use Rattle.group.specs.Draws.{joins, arrival_leaves, drawn}
 use Rattle.group.specs.Calls.{KeyWrap, Publishing, LawfulStrategy, LawfulWrap}
 use Rattle.group.specs.Publishings.{plan_of, size_of, told_of, plan_verdict, file_verdict, publish_verdict, and_then}
 use Rattle.group.specs.Sound.{Sound}
+use Rattle.runs.specs.Runs.{run}
+use Rattle.runs.proofs.EveryRun.{every_run}
 use Rattle.aes.proofs.Permuting.{permutes}
 use Rattle.kw.specs.Lawful as kw
 use Rattle.siv.specs.Lawful as siv
@@ -132,4 +134,9 @@ siv_lawful = record {
 }
 
 pub ample_examples : AmpleExamples
-ample_examples = record { any_ample = zeros_ample; rfc_3394_lawful = kw_lawful; rfc_5297_lawful = siv_lawful }
+ample_examples = record {
+  enough = λ calls p given a some early. ample_publishes (run calls).server (every_run calls given).sound some early p a;
+  any_ample = zeros_ample;
+  rfc_3394_lawful = kw_lawful;
+  rfc_5297_lawful = siv_lawful;
+}

@@ -1,20 +1,24 @@
 -- The worked run.
 use Rattle.std.proofs.Common.{◌≡◌, ℕ, ◌≤◌, ◌<◌, Bool, true, not, ◌&&◌, ◌⊎◌, List, [], ◌∷◌, ◌++◌, length, take, Ok}
-use Rattle.std.proofs.Common.{refl, sym, ap, ◌∙◌, subst, subst₂, inl, inr, lit<, lit≤, arith, is_err}
+use Rattle.std.proofs.Common.{refl, sym, ap, ◌∙◌, subst, subst₂, inl, inr, lit<, lit≤, arith, is_err, drop, take_at}
+use Rattle.std.proofs.lemmas.List.{length-take-le}
 use Rattle.refusal.specs.Refusals.{Verdict, if_done}
 use Rattle.tree.specs.Plans.{In}
 use Rattle.group.specs.declared.state.State.{State}
 use Rattle.group.specs.declared.state.Published.{Published}
 use Rattle.group.specs.States.{row, noted}
-use Rattle.group.specs.Draws.{drawn}
 use Rattle.group.specs.Calls.{Publishing, Call, admit, remove, publish, card}
+use Rattle.keys.specs.Names.{held}
+use Rattle.tree.specs.Tree.{within, leaves, inners}
+use Rattle.tree.specs.Rows.{stands, changed, changed_nodes}
+use Rattle.group.specs.Draws.{arrival_leaves, emptied_leaves, drawn}
 use Rattle.group.specs.Cards.{card_verdict}
 use Rattle.group.specs.Publishings.{size_of, told_of, publish_file}
 use Rattle.group.specs.Steps.{published}
 use Rattle.scanner.specs.Players.{Player, waiting, Act, enrol_verdict, enrol_leaves, is_refused}
 use Rattle.runs.specs.Book.{Seat, Stay, Book, told, next_epoch, IsStay, Member}
 use Rattle.runs.specs.Runs.{Edition, group_key, edition, Site, called, run, AllGiven}
-use Rattle.runs.specs.Players.{CardGiven, Course, enrolled, aside, handed, own, from_to, Enrols, Holds}
+use Rattle.runs.specs.Players.{CardGiven, card_of, Course, enrolled, aside, handed, own, from_to, Enrols, Holds}
 use Rattle.runs.specs.Law.{GroupKeys, SomeMember}
 use Rattle.runs.proofs.EveryRun.{every_run}
 use Rattle.examples.specs.Ample.{Ample}
@@ -56,12 +60,29 @@ module _ (p q : Publishing) (buffer : List ℕ) (a : Ample p) (b : Ample q) (roo
   was_seat : In seat_1001 (run (first_calls p)).book.seats
   was_seat = subst (λ (w : Site). In seat_1001 w.book.seats) (sym seated_site) (inl refl)
 
+  first_law : GroupKeys (first_calls p)
+  first_law = every_run (first_calls p) (a.given, (tt, tt))
+
   card_accepted : card_verdict (server (first_calls p)) 1001 buffer ≡ Ok tt
-  card_accepted = ((every_run (first_calls p) (a.given, (tt, tt))).cards seat_1001 was_seat buffer room).0
+  card_accepted = (first_law.cards seat_1001 was_seat buffer room).0
+
+  key_drawn : (held (published (server first_change) p.material).nodes 128).key ≡ take 32 p.material
+  unfolding arrival_leaves emptied_leaves within leaves inners stands changed changed_nodes
+  key_drawn = refl
+
+  the_key : (held (server (first_calls p)).nodes 128).key ≡ take 32 p.material
+  the_key = ap (λ (w : Site). (held w.server.nodes 128).key) seated_site ∙ key_drawn
+
+  card_bytes : card_1001 p buffer ≡ card_of seat_1001 (take 32 p.material)
+  card_bytes =
+      let long : length (take 32 p.material) ≡ 32 = omega (arith, length-take-le 32 p.material (omega (arith, a.material))) in
+      ap (take 39) (first_law.cards seat_1001 was_seat buffer room).1
+      ∙ ap (λ k. take 39 (card_of seat_1001 k ++ drop 39 buffer)) the_key
+      ∙ take_at (card_of seat_1001 (take 32 p.material)) (drop 39 buffer) 39 (omega (arith, long))
 
   -- before epoch 2 begins
   abbrev noted_calls : List Call
-  noted_calls = admit 1002 1 ∷ remove 1001 ∷ card 1001 buffer ∷ (first_calls p)
+  noted_calls = admit 1002 1 ∷ remove 1001 ∷ card 1001 buffer ∷ first_calls p
 
   abbrev noted_site : Site
   noted_site = called (called (site_after (run first_change) p) (remove 1001)) (admit 1002 1)
@@ -94,7 +115,7 @@ module _ (p q : Publishing) (buffer : List ℕ) (a : Ample p) (b : Ample q) (roo
   card_given : CardGiven all seat_1001 (card_1001 p buffer)
   card_given = record {
     later = publish q ∷ admit 1002 1 ∷ remove 1001 ∷ [];
-    earlier = (first_calls p);
+    earlier = first_calls p;
     buffer = buffer;
     is_call = refl;
     was_seat = was_seat;
@@ -162,6 +183,7 @@ module _ (p q : Publishing) (buffer : List ℕ) (a : Ample p) (b : Ample q) (roo
       is_only = one_file;
       enrols = enrols;
       refused_read = inr refl;
+      course_then = refused_course;
       same_player = refl;
       same_ring = refl;
       course =
@@ -211,6 +233,7 @@ module _ (p q : Publishing) (buffer : List ℕ) (a : Ample p) (b : Ample q) (roo
   pub run_example : RunExample p q buffer
   run_example = record {
     book = book;
+    card = card_bytes;
     card_given = card_given;
     player = player;
     key_1_by_1001 = reaches 1001 1 (record { stay = former_stay; is_stay = is_former; is_its = refl; covers = (lit≤ tt, lit≤ tt) });

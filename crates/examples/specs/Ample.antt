@@ -1,10 +1,13 @@
 -- Publishings that are lent enough for any change, and that there are such.
-use Rattle.std.specs.Prelude.{◌≡◌, ℕ, ◌≤◌, List, [], ◌∷◌, length, replicate}
+use Rattle.std.specs.Prelude.{◌≡◌, ℕ, ◌<◌, ◌≤◌, true, List, [], ◌∷◌, length, replicate, Ok}
 use Rattle.tree.specs.declared.types.Opener.TheVariants.{Present}
 use Rattle.tree.specs.Plans.{In, pair}
 use Rattle.rules.specs.Rules.{Rule, plan, star, user_oriented, key_oriented}
 use Rattle.group.specs.Calls.{KeyWrap, key_wrap, LawfulWrap}
-use Rattle.group.specs.Calls.{Publishing, publishing, publish, Given}
+use Rattle.group.specs.Calls.{Publishing, publishing, Call, publish, Given}
+use Rattle.group.specs.States.{noted}
+use Rattle.group.specs.Publishings.{told_of, publish_verdict}
+use Rattle.runs.specs.Runs.{run, AllGiven}
 use Rattle.kw.specs.Wrapping as kw
 use Rattle.siv.specs.Siv as siv
 
@@ -42,8 +45,13 @@ zero_publishing rule wrap =
     publishing (plan rule) wrap (replicate 8160 0) (replicate 896 (pair (Present 0) 0))
     (replicate 62857 0) (replicate 512 0)
 
--- there is one for each of the three strategies and any lawful wrap, and these two wraps are lawful
+-- that it is enough, and that there are such publishings
 pub record AmpleExamples : Type 0 where
+  -- after any calls that leave something noted and an epoch free, it is accepted
+  pub enough : (calls : List Call) (p : Publishing) → AllGiven calls → Ample p →
+      noted (run calls).server ≡ true → (run calls).server.epoch < 1000000 →
+      publish_verdict (run calls).server p ≡ Ok (told_of (run calls).server p)
+  -- there is one for each of the three strategies and any lawful wrap, and these two are lawful
   pub any_ample : (rule : Rule) (w : KeyWrap) → In rule three_rules → LawfulWrap w →
       AmpleBy rule w.length (zero_publishing rule w)
   pub rfc_3394_lawful : LawfulWrap rfc_3394

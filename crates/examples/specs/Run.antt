@@ -9,7 +9,7 @@ use Rattle.scanner.specs.Players.{enrol_verdict, enrol_leaves, show_verdict, aft
 use Rattle.runs.specs.Book.{Seat, Book}
 use Rattle.runs.specs.Runs.{Edition, group_key, Site, run}
 use Rattle.runs.specs.Reach.{Reached}
-use Rattle.runs.specs.Players.{CardGiven, Course, Aside, from_to}
+use Rattle.runs.specs.Players.{CardGiven, Course, Aside, from_to, card_of}
 use Rattle.runs.specs.Law.{LeafKeyOf}
 use Rattle.examples.specs.Ample.{Ample}
 use Rattle.examples.specs.Examples.{server, first_change}
@@ -54,11 +54,11 @@ scanner_1001 = scanner 1001 128 1
 abbrev pub read_of : Edition → List ℕ → Act
 read_of x work = read x.wrap x.bytes work
 
--- what a player is, and its ring, after it was enrolled with a card on a ring and then called
+-- what that player is after it was enrolled with a card on a ring, and then called
 abbrev pub player_then : Act → List ℕ → List ℕ → Player
 player_then a card ring = after a (waiting scanner_1001) (enrol_leaves card ring)
 
--- its ring then
+-- and its ring
 abbrev pub ring_then : Act → List ℕ → List ℕ → List ℕ
 ring_then a card ring = leaves a (waiting scanner_1001) (enrol_leaves card ring)
 
@@ -68,8 +68,11 @@ pub record PlayerOf1001 (files : List Edition) (card ring work : List ℕ) : Typ
   pub file : Edition
   pub is_only : from_to 1 1 files ≡ file ∷ []
   pub enrols : enrol_verdict card ring ≡ Ok scanner_1001
-  -- it is refused a read without working bytes, an aside that changes neither player nor ring
+  -- it is refused a read without working bytes: that is an aside, after which the course goes on
+  -- with the same player and the same ring
   pub refused_read : Aside (read_of file []) (waiting scanner_1001) (enrol_leaves card ring)
+  pub course_then : Course card [] true
+      (player_then (read_of file []) card ring) (ring_then (read_of file []) card ring)
   pub same_player : player_then (read_of file []) card ring ≡ waiting scanner_1001
   pub same_ring : ring_then (read_of file []) card ring ≡ enrol_leaves card ring
   -- then it is handed the file: it accepts it, is seated, and shows the group key of epoch 1
@@ -84,6 +87,8 @@ ReachedBy w serial epoch = Reached (LeafKeyOf w.book (serial ∷ [])) w.files (n
 -- what this run comes to
 pub record RunExample (p q : Publishing) (buffer : List ℕ) : Type 0 where
   pub book : (run (all_calls p q buffer)).book ≡ last_book
+  -- the leaf key of 1001 is the first that was drawn
+  pub card : card_1001 p buffer ≡ card_of seat_1001 (take 32 p.material)
   -- the card was given while 1001 was seated, which it no more is
   pub card_given : CardGiven (all_calls p q buffer) seat_1001 (card_1001 p buffer)
   pub player : (ring work : List ℕ) → length ring ≡ 288 → 512 ≤ length work →
