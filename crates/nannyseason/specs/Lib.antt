@@ -1,4 +1,3 @@
 pub mod Answers
 pub mod Wraps
 pub mod Players
-pub mod Views

@@ -7,19 +7,18 @@ ghost use Rattle.wrap.specs.Calls.{wiped};
 ghost use Rattle.scanner.specs.Players.{enrol_verdict, enrol_leaves};
 ghost use Rattle.nannyseason.specs.Answers.{says};
 ghost use Rattle.nannyseason.specs.Wraps.{wrap_of, seal_told, seal_left, open_told, open_left};
-ghost use Rattle.nannyseason.specs.Players.{player_of, read_told, read_keeps, read_leaves, show_told, shown_or, wipe_told, wipe_keeps, wipe_leaves, enrolled_or};
+ghost use Rattle.nannyseason.specs.Players.{player_in, read_told, read_keeps, read_leaves, show_told, shown_or, wipe_told, wipe_keeps, wipe_leaves, enrolled_or};
 
 mod answer;
-mod kept;
 mod players;
 mod wraps;
 
 pub use answer::Answer;
 use answer::{DONE, MISUSE};
-use kept::Callable;
-pub use kept::Kept;
 use kw::KeyWrap;
-use players::read_with;
+use player::AnyPlayer;
+pub use player::Stored;
+use players::{player_in, read_with};
 use siv::Siv;
 use wraps::{misused, open_with, seal_with};
 
@@ -67,14 +66,14 @@ pub extern "C" fn nannyseason_open(
 
 /// Enrols the player that a card is for.
 #[unsafe(no_mangle)]
-pub extern "C" fn nannyseason_enrol(card: &[u8], kept: &mut Kept, ring: &mut [u8]) -> Answer
+pub extern "C" fn nannyseason_enrol(card: &[u8], stored: &mut Stored, ring: &mut [u8]) -> Answer
     ensures answer { result ≡ says (enrol_verdict card.now ring.old) }
-    ensures player { kept.new ≡ enrolled_or (enrol_verdict card.now ring.old) kept.old }
+    ensures player { stored.new ≡ enrolled_or (enrol_verdict card.now ring.old) stored.old }
     ensures ring { ring.new ≡ enrol_leaves card.now ring.old }
 {
     match player::enrol(card, ring) {
         Ok(player) => {
-            *kept = Kept::from(player);
+            *stored = AnyPlayer::from(player).store();
             DONE
         }
         Err(fault) => Answer::from(fault),
@@ -86,32 +85,36 @@ pub extern "C" fn nannyseason_enrol(card: &[u8], kept: &mut Kept, ring: &mut [u8
 pub extern "C" fn nannyseason_read(
     kind: u8,
     file: &[u8],
-    kept: &mut Kept,
+    stored: &mut Stored,
     ring: &mut [u8],
     work: &mut [u8],
 ) -> Answer
-    ensures answer { result ≡ says (read_told (wrap_of kind) file.now (player_of kept.old) ring.old work.old) }
-    ensures player { kept.new ≡ read_keeps (wrap_of kind) file.now kept.old ring.old work.old (player_of kept.old) }
-    ensures ring { ring.new ≡ read_leaves (wrap_of kind) file.now ring.old work.old (player_of kept.old) }
+    ensures answer { result
+        ≡ says (read_told (wrap_of kind) file.now (player_in stored.old) ring.old work.old) }
+    ensures player { stored.new
+        ≡ read_keeps (wrap_of kind) file.now stored.old ring.old work.old (player_in stored.old) }
+    ensures ring { ring.new
+        ≡ read_leaves (wrap_of kind) file.now ring.old work.old (player_in stored.old) }
     ensures cleared { work.new ≡ wiped work.old }
 {
     match kind {
-        1 => read_with(&KeyWrap, file, kept, ring, work),
-        2 => read_with(&Siv, file, kept, ring, work),
+        1 => read_with(&KeyWrap, file, stored, ring, work),
+        2 => read_with(&Siv, file, stored, ring, work),
         _ => misused(work),
     }
 }
 
 /// Writes the group key of a seated player to `key`.
 #[unsafe(no_mangle)]
-pub extern "C" fn nannyseason_show(kept: &Kept, ring: &[u8], key: &mut [u8]) -> Answer
-    ensures answer { result ≡ says (show_told (player_of kept.now) ring.now key.old) }
-    ensures written { key.new ≡ shown_or (show_told (player_of kept.now) ring.now key.old) key.old }
+pub extern "C" fn nannyseason_show(stored: &Stored, ring: &[u8], key: &mut [u8]) -> Answer
+    ensures answer { result ≡ says (show_told (player_in stored.now) ring.now key.old) }
+    ensures written { key.new
+        ≡ shown_or (show_told (player_in stored.now) ring.now key.old) key.old }
 {
     let Some(place) = key.as_mut_array() else {
         return MISUSE;
     };
-    let Some(Callable::Seated(player)) = kept.player() else {
+    let Some(AnyPlayer::Seated(player)) = player_in(stored) else {
         return MISUSE;
     };
     match player.show(ring) {
@@ -125,19 +128,19 @@ pub extern "C" fn nannyseason_show(kept: &Kept, ring: &[u8], key: &mut [u8]) -> 
 
 /// Makes zeros of the ring of a player that is not wiped.
 #[unsafe(no_mangle)]
-pub extern "C" fn nannyseason_wipe(kept: &mut Kept, ring: &mut [u8]) -> Answer
-    ensures answer { result ≡ says (wipe_told (player_of kept.old) ring.old) }
-    ensures player { kept.new ≡ wipe_keeps kept.old ring.old (player_of kept.old) }
-    ensures ring { ring.new ≡ wipe_leaves ring.old (player_of kept.old) }
+pub extern "C" fn nannyseason_wipe(stored: &mut Stored, ring: &mut [u8]) -> Answer
+    ensures answer { result ≡ says (wipe_told (player_in stored.old) ring.old) }
+    ensures player { stored.new ≡ wipe_keeps stored.old ring.old (player_in stored.old) }
+    ensures ring { ring.new ≡ wipe_leaves ring.old (player_in stored.old) }
 {
-    let wiped = match kept.player() {
-        Some(Callable::Waiting(player)) => player.wipe(ring).map_err(|r| r.fault),
-        Some(Callable::Seated(player)) => player.wipe(ring).map_err(|r| r.fault),
-        None => return MISUSE,
+    let wiped = match player_in(stored) {
+        Some(AnyPlayer::Waiting(player)) => player.wipe(ring).map_err(|r| r.fault),
+        Some(AnyPlayer::Seated(player)) => player.wipe(ring).map_err(|r| r.fault),
+        Some(AnyPlayer::Wiped(_)) | None => return MISUSE,
     };
     match wiped {
         Ok(player) => {
-            *kept = Kept::from(player);
+            *stored = AnyPlayer::from(player).store();
             DONE
         }
         Err(fault) => Answer::from(fault),
@@ -147,7 +150,6 @@ pub extern "C" fn nannyseason_wipe(kept: &mut Kept, ring: &mut [u8]) -> Answer
 #[cfg(test)]
 mod tests {
     use super::*;
-    use kept::SEATED;
 
     // RFC 3394, section 4.6: 256 bits of key data under a 256-bit key.
     const KEY: [u8; 32] = [
@@ -202,8 +204,8 @@ mod tests {
         assert!(rt; answer.refusal == 64 && place == [9u8; 33]);
     }
 
-    fn player(state: u8, serial: u16, leaf: u8, epoch: u32) -> Kept {
-        Kept {
+    fn player(state: u8, serial: u16, leaf: u8, epoch: u32) -> Stored {
+        Stored {
             state,
             leaf,
             serial,
@@ -215,29 +217,29 @@ mod tests {
     fn enrols_and_wipes(rt: HostRuntime) {
         let mut card = [8u8; 39];
         card[..7].copy_from_slice(&[0x27, 0x0f, 200, 0, 0, 0, 3]);
-        let mut kept = player(0, 0, 0, 0);
+        let mut stored = player(0, 0, 0, 0);
         let mut ring = [1u8; 288];
-        let answer = nannyseason_enrol(&card, &mut kept, &mut ring);
-        assert!(rt; answer.refusal == 0 && kept.state == 1 && kept.serial == 9999);
-        assert!(rt; kept.leaf == 200 && kept.epoch == 3 && ring[..36] == card[3..]);
+        let answer = nannyseason_enrol(&card, &mut stored, &mut ring);
+        assert!(rt; answer.refusal == 0 && stored.state == 1 && stored.serial == 9999);
+        assert!(rt; stored.leaf == 200 && stored.epoch == 3 && ring[..36] == card[3..]);
         let mut key = [2u8; 32];
-        let answer = nannyseason_show(&kept, &ring, &mut key);
+        let answer = nannyseason_show(&stored, &ring, &mut key);
         assert!(rt; answer.refusal == 64 && key == [2u8; 32]);
-        let answer = nannyseason_wipe(&mut kept, &mut ring);
-        assert!(rt; answer.refusal == 0 && kept.state == 3 && kept.serial == 9999);
-        assert!(rt; kept.leaf == 0 && kept.epoch == 0 && ring == [0u8; 288]);
-        let answer = nannyseason_wipe(&mut kept, &mut ring);
-        assert!(rt; answer.refusal == 64 && kept.serial == 9999);
+        let answer = nannyseason_wipe(&mut stored, &mut ring);
+        assert!(rt; answer.refusal == 0 && stored.state == 3 && stored.serial == 9999);
+        assert!(rt; stored.leaf == 0 && stored.epoch == 0 && ring == [0u8; 288]);
+        let answer = nannyseason_wipe(&mut stored, &mut ring);
+        assert!(rt; answer.refusal == 64 && stored.serial == 9999);
     }
 
     #[test]
     fn shows_bytes_256_to_287(rt: HostRuntime) {
         let ring: [u8; 288] = std::array::from_fn(|i| (i % 251) as u8);
-        let kept = player(SEATED, 1, 128, 1);
+        let stored = player(2, 1, 128, 1);
         let mut key = [0u8; 32];
-        let answer = nannyseason_show(&kept, &ring, &mut key);
+        let answer = nannyseason_show(&stored, &ring, &mut key);
         assert!(rt; answer.refusal == 0 && key[0] == 5 && key[31] == 36);
-        let answer = nannyseason_show(&kept, &ring[1..], &mut key);
+        let answer = nannyseason_show(&stored, &ring[1..], &mut key);
         assert!(rt; answer.refusal == 14);
     }
 
@@ -246,15 +248,15 @@ mod tests {
         let ring = [6u8; 288];
         let none = [
             player(4, 1, 128, 1),
-            player(SEATED, 0, 128, 1),
-            player(SEATED, 10000, 128, 1),
-            player(SEATED, 1, 127, 1),
-            player(SEATED, 1, 128, 0),
-            player(SEATED, 1, 128, 1_000_001),
+            player(2, 0, 128, 1),
+            player(2, 10000, 128, 1),
+            player(2, 1, 127, 1),
+            player(2, 1, 128, 0),
+            player(2, 1, 128, 1_000_001),
         ];
-        for kept in none {
+        for stored in none {
             let mut key = [2u8; 32];
-            let answer = nannyseason_show(&kept, &ring, &mut key);
+            let answer = nannyseason_show(&stored, &ring, &mut key);
             assert!(rt; answer.refusal == 64 && key == [2u8; 32]);
         }
     }

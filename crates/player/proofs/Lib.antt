@@ -1,1 +1,2 @@
 mod Epochs
+mod Storing

@@ -1,3 +1,5 @@
+pub mod Ranges
 pub mod Refusals
 pub mod Views
-pub mod Numbers
+pub mod Stored
+pub mod Laws

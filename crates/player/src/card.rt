@@ -1,8 +1,9 @@
 //! Enrolling: what a card says.
 ghost use Rattle.std.specs.Prelude.{◌≡◌, Ok};
-ghost use Rattle.scanner.specs.Players.{enrol_verdict, enrol_leaves, faultless, card_fault, scanner};
 ghost use Rattle.byte_strings.specs.Numbers.{byte_at, number2, number4};
-ghost use Rattle.player.specs.Views.{told_enrolled};
+ghost use Rattle.refusal.specs.Refusals.{told};
+ghost use Rattle.scanner.specs.Players.{enrol_verdict, enrol_leaves, faultless, card_fault, scanner};
+ghost use Rattle.player.specs.Refusals.{enrol_refusal};
 
 use crate::fault::EnrolFault;
 use crate::players::Waiting;
@@ -14,7 +15,9 @@ pub const CARD_BYTES: usize = 39;
 
 // The player that a card is for.
 fn read_card(card: &[u8]) -> Result<Waiting, EnrolFault>
-    ensures { told_enrolled result ≡ faultless 13 (card_fault card.now) (Ok (scanner (number2 card.now 0) (byte_at card.now 2) (number4 card.now 3))) }
+    ensures { told enrol_refusal result
+        ≡ faultless 13 (card_fault card.now)
+        (Ok (scanner (number2 card.now 0) (byte_at card.now 2) (number4 card.now 3))) }
 {
     if card.len() != CARD_BYTES {
         return Err(EnrolFault::Card {
@@ -42,7 +45,7 @@ fn read_card(card: &[u8]) -> Result<Waiting, EnrolFault>
 
 /// Enrols the player that a card is for: the card's epoch and key become the ring's first entry, the rest zeros.
 pub fn enrol(card: &[u8], ring: &mut [u8]) -> Result<Waiting, EnrolFault>
-    ensures answer { told_enrolled result ≡ enrol_verdict card.now ring.old }
+    ensures answer { told enrol_refusal result ≡ enrol_verdict card.now ring.old }
     ensures ring { ring.new ≡ enrol_leaves card.now ring.old }
 {
     if ring.len() != RING_BYTES {

@@ -3,26 +3,26 @@
 
 ghost use Rattle.std.specs.Prelude.{◌≡◌};
 
+mod any;
 mod card;
 mod fault;
-mod numbers;
 mod players;
 mod read;
 mod rings;
 mod seated;
 mod waiting;
 
+pub use any::{AnyPlayer, Stored, storing_laws};
 pub use card::{CARD_BYTES, enrol};
 pub use climb::ReadFault;
 pub use fault::{EnrolFault, RingFault};
-pub use numbers::Numbers;
 pub use players::{Refused, Seated, Waiting, Wiped};
 pub use ring::RING_BYTES;
 
 impl Wiped {
     /// The serial of the player.
     pub fn serial(&self) -> u16
-        ensures { result ≡ self.now.serial }
+        ensures { result ≡ self.now }
     {
         self.serial
     }

@@ -1,5 +1,9 @@
 //! The states of a player: plain numbers, moved from call to call. The ring is lent at each call.
-ghost use Rattle.std.specs.Prelude.{◌≤◌};
+ghost use Rattle.std.specs.Prelude.{ℕ};
+ghost use Rattle.scanner.specs.Players.{Scanner, scanner};
+ghost use Rattle.player.specs.Ranges.{IsSerial, InRange};
+
+use std::marker::Model;
 
 /// A player that has read no file yet.
 #[derive(Drop)]
@@ -10,6 +14,14 @@ pub struct Waiting {
     pub(crate) epoch: u32,
 }
 
+impl Model for Waiting {
+    ghost Value = { Scanner };
+
+    ghost view = { λ p. scanner p.serial p.leaf p.epoch };
+
+    ghost invariant = { λ p. InRange p.serial p.leaf p.epoch };
+}
+
 /// A player whose ring has a group key.
 #[derive(Drop)]
 pub struct Seated {
@@ -17,13 +29,28 @@ pub struct Seated {
     pub(crate) leaf: u8,
     // That of the group key.
     pub(crate) epoch: u32,
-    ghost in_range: { epoch ≤ 1000000 },
+}
+
+impl Model for Seated {
+    ghost Value = { Scanner };
+
+    ghost view = { λ p. scanner p.serial p.leaf p.epoch };
+
+    ghost invariant = { λ p. InRange p.serial p.leaf p.epoch };
 }
 
 /// What is left of a player whose ring was wiped.
 #[derive(Drop)]
 pub struct Wiped {
     pub(crate) serial: u16,
+}
+
+impl Model for Wiped {
+    ghost Value = { ℕ };
+
+    ghost view = { λ p. p.serial };
+
+    ghost invariant = { λ p. IsSerial p.serial };
 }
 
 /// A call that was refused hands the same player back.

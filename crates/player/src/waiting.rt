@@ -3,9 +3,10 @@ ghost use Rattle.std.specs.Prelude.{◌≡◌};
 ghost use Rattle.wrap.specs.Calls.{wiped};
 ghost use Rattle.group.specs.Calls.{key_wrap};
 ghost use Rattle.scanner.specs.Players.{reading, wipe_verdict, read, wipe, after, leaves};
+ghost use Rattle.scanner.specs.Players as states;
 ghost use Rattle.climb.specs.Refusals.{refusal_of, done};
 ghost use Rattle.player.specs.Refusals.{ring_refusal};
-ghost use Rattle.player.specs.Views.{is_waiting, is_seated, is_wiped, told_moved, moved};
+ghost use Rattle.player.specs.Views.{told_moved, moved};
 
 use crate::fault::RingFault;
 use crate::players::{Refused, Seated, Waiting, Wiped};
@@ -23,9 +24,15 @@ impl Waiting {
         ring: &mut [u8],
         work: &mut [u8],
     ) -> Result<Seated, Refused<Waiting, ReadFault>>
-        ensures answer { told_moved refusal_of result ≡ done (reading self.leaf self.epoch (key_wrap W.wrap_kind W.wrap_length W.sealed W.opened) file.now work.old ring.old) }
-        ensures player { moved is_seated is_waiting result ≡ after (read (key_wrap W.wrap_kind W.wrap_length W.sealed W.opened) file.now work.old) (is_waiting self) ring.old }
-        ensures ring { ring.new ≡ leaves (read (key_wrap W.wrap_kind W.wrap_length W.sealed W.opened) file.now work.old) (is_waiting self) ring.old }
+        ensures answer { told_moved refusal_of result
+            ≡ done (reading self.leaf self.epoch
+            (key_wrap W.wrap_kind W.wrap_length W.sealed W.opened) file.now work.old ring.old) }
+        ensures player { moved states.seated states.waiting result
+            ≡ after (read (key_wrap W.wrap_kind W.wrap_length W.sealed W.opened) file.now work.old)
+            (states.waiting self) ring.old }
+        ensures ring { ring.new
+            ≡ leaves (read (key_wrap W.wrap_kind W.wrap_length W.sealed W.opened) file.now work.old)
+            (states.waiting self) ring.old }
         ensures cleared { work.new ≡ wiped work.old }
     {
         match read_wanted(wrap, file, self.leaf, self.epoch, ring, work) {
@@ -44,8 +51,9 @@ impl Waiting {
     /// Makes zeros of the ring.
     pub fn wipe(self, ring: &mut [u8]) -> Result<Wiped, Refused<Waiting, RingFault>>
         ensures answer { told_moved ring_refusal result ≡ wipe_verdict ring.old }
-        ensures player { moved is_wiped is_waiting result ≡ after wipe (is_waiting self) ring.old }
-        ensures ring { ring.new ≡ leaves wipe (is_waiting self) ring.old }
+        ensures player { moved states.wiped states.waiting result
+            ≡ after wipe (states.waiting self) ring.old }
+        ensures ring { ring.new ≡ leaves wipe (states.waiting self) ring.old }
     {
         match wipe_ring(ring) {
             Ok(()) => Ok(Wiped {

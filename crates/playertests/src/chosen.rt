@@ -4,9 +4,9 @@ use crate::bytes::{
     LAST_KEY, LAST_KIND_1, LAST_KIND_2, MISNAMED_KIND_1, MISNAMED_KIND_2, RING_5, RING_6,
     SHUT_OUT_KIND_1, SHUT_OUT_KIND_2,
 };
-use crate::players::{Player, does_not_open, enrolled, is_refused, no_file};
+use crate::players::{Calls, does_not_open, enrolled, is_refused, no_file};
 use kw::KeyWrap;
-use player::ReadFault;
+use player::{AnyPlayer, ReadFault};
 use siv::Siv;
 use std::process::Abort;
 use wrap::Wrap;
@@ -14,12 +14,12 @@ use wrap::Wrap;
 // Reads a file that is taken, and compares the ring.
 fn taken<W: Wrap>(
     rt: &impl Abort,
-    player: Player,
+    player: AnyPlayer,
     wrap: &W,
     file: &[u8],
     ring: &mut [u8; 288],
     want: &[u8; 288],
-) -> Player {
+) -> AnyPlayer {
     let mut work = [5u8; 512];
     let (player, fault) = player.read(wrap, file, ring, &mut work);
     assert_eq!(rt; fault, None);
@@ -30,13 +30,13 @@ fn taken<W: Wrap>(
 // Reads a file with the wrap of one index damaged: it is refused if the wrap is one of those that are opened, and else taken.
 fn reads_damaged<W: Wrap>(
     rt: &impl Abort,
-    player: Player,
+    player: AnyPlayer,
     wrap: &W,
     file: &mut [u8],
     index: usize,
     ring: &mut [u8; 288],
     opened: &[usize],
-) -> Player {
+) -> AnyPlayer {
     assert!(rt; file.len() > 20 && index < 9 && wrap.sealed_len() <= 64);
     let epoch = u32::from(file[6]);
     let at = 10 + usize::from(file[7]) + index * (6 + wrap.sealed_len()) + 6;

@@ -1,8 +1,8 @@
 //! Cards and rings: which are refused, and what an enrolling, a showing and a wiping leave.
 use crate::bytes::{CARD_11, FILE_1, FILE_2, GROUP_KEYS};
-use crate::players::{Player, enrolled, reads};
+use crate::players::{Calls, enrolled, reads};
 use kw::KeyWrap;
-use player::{EnrolFault, RingFault, enrol};
+use player::{AnyPlayer, EnrolFault, RingFault, enrol};
 use siv::Siv;
 use std::process::Abort;
 
@@ -98,7 +98,7 @@ fn a_seated_player_shows_and_wipes(rt: HostRuntime) {
     let player = enrolled(rt, &CARD_11, &mut ring);
     assert!(rt; player.shown(&ring).is_none());
     let player = reads(rt, player, &KeyWrap, &FILE_1, &mut ring, GROUP_KEYS[0]);
-    let Player::Seated(mut player) = player else {
+    let AnyPlayer::Seated(mut player) = player else {
         assert!(rt; false, "the player waits");
         return;
     };
@@ -121,13 +121,13 @@ fn a_seated_player_shows_and_wipes(rt: HostRuntime) {
     // It is the player that it was: it reads the next file.
     let player = reads(
         rt,
-        Player::Seated(player),
+        AnyPlayer::from(player),
         &Siv,
         &FILE_2,
         &mut ring,
         GROUP_KEYS[1],
     );
-    let Player::Seated(player) = player else {
+    let AnyPlayer::Seated(player) = player else {
         assert!(rt; false, "the player waits");
         return;
     };

@@ -18,4 +18,6 @@ mod refused;
 #[cfg(test)]
 mod spoilt;
 #[cfg(test)]
+mod storing;
+#[cfg(test)]
 mod sums;

@@ -2,10 +2,10 @@
 //! over all answers, rings and group keys is the model's.
 ghost use Rattle.std.specs.Prelude.{◌<◌, ◌≤◌};
 
-use crate::players::{ENOUGH, Lengths, Player};
+use crate::players::{Calls, ENOUGH, Lengths};
 use crate::sums::Sum;
 use kw::KeyWrap;
-use player::{EnrolFault, enrol};
+use player::{AnyPlayer, EnrolFault, enrol};
 use server::Server;
 use siv::Siv;
 use std::array;
@@ -18,7 +18,7 @@ use wrap::Wrap;
 #[derive(Drop)]
 struct Scanner {
     serial: u32,
-    player: Option<Player>,
+    player: Option<AnyPlayer>,
     ring: [u8; 288],
 }
 
@@ -60,7 +60,7 @@ fn remove(run: &mut Run) {
 fn enrol_with(run: &mut Run, scanner: &mut Scanner, card: &[u8; 39]) {
     match enrol(card, &mut scanner.ring) {
         Ok(player) => {
-            scanner.player = Some(Player::Waiting(player));
+            scanner.player = Some(AnyPlayer::from(player));
             run.sum.add(0);
         }
         Err(fault) => {

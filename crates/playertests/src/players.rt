@@ -1,49 +1,59 @@
 //! A player under test.
 use layout::FileFault;
-use player::{ReadFault, Seated, Waiting, enrol};
+use player::{AnyPlayer, ReadFault, enrol};
 use std::process::Abort;
 use wrap::{Wrap, WrapFault};
 
-/// A player that waits, or one that is seated.
-#[derive(Drop)]
-pub(crate) enum Player {
-    Waiting(Waiting),
-    Seated(Seated),
-}
-
-impl Player {
-    pub(crate) fn read<W: Wrap>(
+/// The calls of a player in any state, as the tests make them.
+pub(crate) trait Calls: Sized {
+    fn read<W: Wrap>(
         self,
         wrap: &W,
         file: &[u8],
         ring: &mut [u8],
         work: &mut [u8],
-    ) -> (Player, Option<ReadFault>) {
-        match self {
-            Player::Waiting(player) => match player.read(wrap, file, ring, work) {
-                Ok(seated) => (Player::Seated(seated), None),
-                Err(refused) => (Player::Waiting(refused.player), Some(refused.fault)),
-            },
-            Player::Seated(player) => match player.read(wrap, file, ring, work) {
-                Ok(seated) => (Player::Seated(seated), None),
-                Err(refused) => (Player::Seated(refused.player), Some(refused.fault)),
-            },
-        }
-    }
+    ) -> (Self, Option<ReadFault>);
 
     /// Wipes the ring, and answers the serial that is left.
-    pub(crate) fn wiped(self, ring: &mut [u8]) -> Option<u16> {
+    fn wiped(self, ring: &mut [u8]) -> Option<u16>;
+
+    /// The group key; nothing where the player is not seated.
+    fn shown(&self, ring: &[u8]) -> Option<[u8; 32]>;
+}
+
+impl Calls for AnyPlayer {
+    fn read<W: Wrap>(
+        self,
+        wrap: &W,
+        file: &[u8],
+        ring: &mut [u8],
+        work: &mut [u8],
+    ) -> (AnyPlayer, Option<ReadFault>) {
         match self {
-            Player::Waiting(player) => player.wipe(ring).ok().map(|wiped| wiped.serial()),
-            Player::Seated(player) => player.wipe(ring).ok().map(|wiped| wiped.serial()),
+            AnyPlayer::Waiting(player) => match player.read(wrap, file, ring, work) {
+                Ok(seated) => (AnyPlayer::from(seated), None),
+                Err(refused) => (AnyPlayer::from(refused.player), Some(refused.fault)),
+            },
+            AnyPlayer::Seated(player) => match player.read(wrap, file, ring, work) {
+                Ok(seated) => (AnyPlayer::from(seated), None),
+                Err(refused) => (AnyPlayer::from(refused.player), Some(refused.fault)),
+            },
+            AnyPlayer::Wiped(player) => (AnyPlayer::from(player), None),
         }
     }
 
-    /// The group key; nothing where the player waits.
-    pub(crate) fn shown(&self, ring: &[u8]) -> Option<[u8; 32]> {
+    fn wiped(self, ring: &mut [u8]) -> Option<u16> {
         match self {
-            Player::Waiting(_) => None,
-            Player::Seated(player) => player.show(ring).ok(),
+            AnyPlayer::Waiting(player) => player.wipe(ring).ok().map(|wiped| wiped.serial()),
+            AnyPlayer::Seated(player) => player.wipe(ring).ok().map(|wiped| wiped.serial()),
+            AnyPlayer::Wiped(_) => None,
+        }
+    }
+
+    fn shown(&self, ring: &[u8]) -> Option<[u8; 32]> {
+        match self {
+            AnyPlayer::Seated(player) => player.show(ring).ok(),
+            _ => None,
         }
     }
 }
@@ -80,19 +90,19 @@ pub(crate) const ENOUGH: Lengths = Lengths {
 };
 
 /// Enrols a player with a card that is taken.
-pub(crate) fn enrolled(rt: &impl Abort, card: &[u8], ring: &mut [u8]) -> Player {
-    Player::Waiting(enrol(card, ring).expect(rt, "the card is refused"))
+pub(crate) fn enrolled(rt: &impl Abort, card: &[u8], ring: &mut [u8]) -> AnyPlayer {
+    AnyPlayer::from(enrol(card, ring).expect(rt, "the card is refused"))
 }
 
 /// Reads a file that is taken, and looks at all that a reading leaves but the ring.
 pub(crate) fn reads<W: Wrap>(
     rt: &impl Abort,
-    player: Player,
+    player: AnyPlayer,
     wrap: &W,
     file: &[u8],
     ring: &mut [u8],
     group_key: [u8; 32],
-) -> Player {
+) -> AnyPlayer {
     let mut work = [5u8; 600];
     let (player, fault) = player.read(wrap, file, ring, &mut work);
     assert_eq!(rt; fault, None);
@@ -104,13 +114,13 @@ pub(crate) fn reads<W: Wrap>(
 /// Is refused a file, and looks at all that a refusal leaves but for the player.
 pub(crate) fn is_refused<W: Wrap>(
     rt: &impl Abort,
-    player: Player,
+    player: AnyPlayer,
     wrap: &W,
     file: &[u8],
     ring: &mut [u8; 288],
     fault: ReadFault,
     number: u8,
-) -> Player {
+) -> AnyPlayer {
     let before = *ring;
     let mut work = [5u8; 512];
     let (player, told) = player.read(wrap, file, ring, &mut work);

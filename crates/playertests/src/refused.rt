@@ -1,8 +1,8 @@
 //! Readings that are refused: one check after the other, and what they leave.
 use crate::bytes::{CARD_11, FILE_1, FILE_2, FILE_3, GROUP_KEYS};
-use crate::players::{ENOUGH, Lengths, Player, does_not_open, enrolled, no_file, reads};
+use crate::players::{Calls, ENOUGH, Lengths, does_not_open, enrolled, no_file, reads};
 use kw::KeyWrap;
-use player::ReadFault;
+use player::{AnyPlayer, ReadFault};
 use siv::Siv;
 use std::process::Abort;
 use wrap::Wrap;
@@ -28,14 +28,14 @@ const LONG_RING: Lengths = Lengths {
 // A file is refused: nothing is written but zeros to 512 working bytes or more.
 fn no_reading<W: Wrap>(
     rt: &impl Abort,
-    player: Player,
+    player: AnyPlayer,
     wrap: &W,
     file: &[u8],
     ring: &mut [u8; 300],
     lengths: Lengths,
     fault: ReadFault,
     number: u8,
-) -> Player {
+) -> AnyPlayer {
     let before = *ring;
     let mut work = [5u8; 600];
     assert!(rt; lengths.ring <= 300 && lengths.work <= 600);
@@ -57,11 +57,11 @@ fn no_reading<W: Wrap>(
 // Whoever wants epoch `wanted` is refused for the bytes that are lent, for the layout and for the epoch, in that order.
 fn refused_in_order<W: Wrap>(
     rt: &impl Abort,
-    player: Player,
+    player: AnyPlayer,
     wrap: &W,
     wanted: u32,
     ring: &mut [u8; 300],
-) -> Player {
+) -> AnyPlayer {
     assert!(rt; 0 < wanted && wanted < 9);
     let mut player = player;
     for file in [&[] as &[u8], &FILE_1, &FILE_2, &FILE_3] {
@@ -104,12 +104,12 @@ fn refused_in_order<W: Wrap>(
 // Reads the right file after all, and so is the player that it was.
 fn reads_at_last<W: Wrap>(
     rt: &impl Abort,
-    player: Player,
+    player: AnyPlayer,
     wrap: &W,
     file: &[u8],
     ring: &mut [u8; 300],
     group_key: [u8; 32],
-) -> Player {
+) -> AnyPlayer {
     reads(rt, player, wrap, file, &mut ring[..288], group_key)
 }
 
@@ -125,7 +125,7 @@ fn a_waiting_player_comes_back(rt: HostRuntime) {
         file[23 + 46 * index + 6] ^= 0x80;
         let fault = does_not_open(index, 1);
         player = no_reading(rt, player, &KeyWrap, &file, &mut ring, ENOUGH, fault, 18);
-        assert!(rt; matches!(player, Player::Waiting(_)));
+        assert!(rt; matches!(player, AnyPlayer::Waiting(_)));
     }
     reads_at_last(rt, player, &KeyWrap, &FILE_1, &mut ring, GROUP_KEYS[0]);
 }
@@ -143,7 +143,7 @@ fn a_seated_player_comes_back(rt: HostRuntime) {
         file[17 + 54 * index + 6] ^= 0x80;
         let fault = does_not_open(index, 2);
         player = no_reading(rt, player, &Siv, &file, &mut ring, ENOUGH, fault, 18);
-        assert!(rt; matches!(player, Player::Seated(_)));
+        assert!(rt; matches!(player, AnyPlayer::Seated(_)));
     }
     reads_at_last(rt, player, &Siv, &FILE_2, &mut ring, GROUP_KEYS[1]);
 }

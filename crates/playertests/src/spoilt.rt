@@ -1,8 +1,9 @@
 //! Files with one byte spoilt, at each place, and cut at each length: the sum over all that is told, and all rings, is the model's.
 use crate::bytes::{CARD_11, CARD_12_AGAIN, FILE_1, FILE_2, FILE_4, FILE_5};
-use crate::players::{Player, enrolled};
+use crate::players::{Calls, enrolled};
 use crate::sums::Sum;
 use kw::KeyWrap;
+use player::AnyPlayer;
 use siv::Siv;
 use std::process::Abort;
 use wrap::Wrap;
@@ -16,7 +17,7 @@ enum Stage {
     Seated12,
 }
 
-fn player_of(rt: &impl Abort, stage: Stage, ring: &mut [u8], work: &mut [u8]) -> Player {
+fn player_of(rt: &impl Abort, stage: Stage, ring: &mut [u8], work: &mut [u8]) -> AnyPlayer {
     match stage {
         Stage::Waiting11 => enrolled(rt, &CARD_11, ring),
         Stage::Seated11 => {

@@ -1,53 +1,41 @@
 //! The board of a scanner: its card, its player and its ring.
 
-use player::{
-    CARD_BYTES, EnrolFault, RING_BYTES, ReadFault, Refused, Seated, Waiting, Wiped, enrol,
-};
+use player::{AnyPlayer, CARD_BYTES, EnrolFault, RING_BYTES, ReadFault, Refused, enrol};
 use wrap::{WORKING_BYTES, Wrap};
 
-/// A player, in whatever state it is.
-#[derive(Drop)]
-enum Player {
-    Waiting(Waiting),
-    Seated(Seated),
-    Wiped(Wiped),
+// A wiped player reads no file, and so meets no fault.
+fn read<W: Wrap>(
+    player: AnyPlayer,
+    wrap: &W,
+    file: &[u8],
+    ring: &mut [u8],
+    work: &mut [u8],
+) -> (AnyPlayer, Option<ReadFault>) {
+    match player {
+        AnyPlayer::Waiting(player) => match player.read(wrap, file, ring, work) {
+            Ok(seated) => (AnyPlayer::from(seated), None),
+            Err(Refused { player, fault }) => (AnyPlayer::from(player), Some(fault)),
+        },
+        AnyPlayer::Seated(player) => match player.read(wrap, file, ring, work) {
+            Ok(seated) => (AnyPlayer::from(seated), None),
+            Err(Refused { player, fault }) => (AnyPlayer::from(player), Some(fault)),
+        },
+        AnyPlayer::Wiped(player) => (AnyPlayer::from(player), None),
+    }
 }
 
-impl Player {
-    // A wiped player reads no file, and so meets no fault.
-    fn read<W: Wrap>(
-        self,
-        wrap: &W,
-        file: &[u8],
-        ring: &mut [u8],
-        work: &mut [u8],
-    ) -> (Player, Option<ReadFault>) {
-        match self {
-            Player::Waiting(player) => match player.read(wrap, file, ring, work) {
-                Ok(seated) => (Player::Seated(seated), None),
-                Err(Refused { player, fault }) => (Player::Waiting(player), Some(fault)),
-            },
-            Player::Seated(player) => match player.read(wrap, file, ring, work) {
-                Ok(seated) => (Player::Seated(seated), None),
-                Err(Refused { player, fault }) => (Player::Seated(player), Some(fault)),
-            },
-            Player::Wiped(player) => (Player::Wiped(player), None),
-        }
-    }
-
-    // A ring of a board has 288 bytes, so no wiping is refused.
-    fn wipe(self, ring: &mut [u8]) -> Player {
-        match self {
-            Player::Waiting(player) => match player.wipe(ring) {
-                Ok(wiped) => Player::Wiped(wiped),
-                Err(refused) => Player::Waiting(refused.player),
-            },
-            Player::Seated(player) => match player.wipe(ring) {
-                Ok(wiped) => Player::Wiped(wiped),
-                Err(refused) => Player::Seated(refused.player),
-            },
-            Player::Wiped(player) => Player::Wiped(player),
-        }
+// A ring of a board has 288 bytes, so no wiping is refused.
+fn wipe(player: AnyPlayer, ring: &mut [u8]) -> AnyPlayer {
+    match player {
+        AnyPlayer::Waiting(player) => match player.wipe(ring) {
+            Ok(wiped) => AnyPlayer::from(wiped),
+            Err(refused) => AnyPlayer::from(refused.player),
+        },
+        AnyPlayer::Seated(player) => match player.wipe(ring) {
+            Ok(wiped) => AnyPlayer::from(wiped),
+            Err(refused) => AnyPlayer::from(refused.player),
+        },
+        AnyPlayer::Wiped(player) => AnyPlayer::from(player),
     }
 }
 
@@ -57,7 +45,7 @@ pub(crate) struct Board {
     pub(crate) card: [u8; CARD_BYTES],
     ring: [u8; RING_BYTES],
     // It is out only while a call moves it.
-    player: Option<Player>,
+    player: Option<AnyPlayer>,
 }
 
 impl Board {
@@ -68,7 +56,7 @@ impl Board {
         Ok(Board {
             card,
             ring,
-            player: Some(Player::Waiting(player)),
+            player: Some(AnyPlayer::from(player)),
         })
     }
 
@@ -85,10 +73,7 @@ impl Board {
     /// Reads a file, if it is not wiped.
     pub(crate) fn read<W: Wrap>(&mut self, wrap: &W, file: &[u8]) -> Option<ReadFault> {
         let mut work = [0; WORKING_BYTES];
-        let (player, fault) = self
-            .player
-            .take()?
-            .read(wrap, file, &mut self.ring, &mut work);
+        let (player, fault) = read(self.player.take()?, wrap, file, &mut self.ring, &mut work);
         self.player = Some(player);
         fault
     }
@@ -96,7 +81,7 @@ impl Board {
     /// The group key that it holds.
     pub(crate) fn group_key(&self) -> Option<[u8; 32]> {
         match &self.player {
-            Some(Player::Seated(player)) => player.show(&self.ring).ok(),
+            Some(AnyPlayer::Seated(player)) => player.show(&self.ring).ok(),
             _ => None,
         }
     }
@@ -104,7 +89,7 @@ impl Board {
     /// Wipes its ring.
     pub(crate) fn wipe(&mut self) {
         if let Some(player) = self.player.take() {
-            self.player = Some(player.wipe(&mut self.ring));
+            self.player = Some(wipe(player, &mut self.ring));
         }
     }
 

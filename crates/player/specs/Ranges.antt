@@ -1,0 +1,12 @@
+-- The numbers that a player can have.
+use Rattle.std.specs.Prelude.{ℕ, ◌≤◌}
+
+-- the serial of any player
+abbrev pub IsSerial : ℕ → Type 0
+IsSerial serial = (1 ≤ serial) × (serial ≤ 9999)
+
+-- the numbers of one that is waiting or seated: they are what a card may say
+pub record InRange (serial leaf epoch : ℕ) : Type 0 where
+  pub serial_range : IsSerial serial
+  pub leaf_range : (128 ≤ leaf) × (leaf ≤ 255)
+  pub epoch_range : (1 ≤ epoch) × (epoch ≤ 1000000)
