@@ -22,7 +22,7 @@ use Rattle.group.specs.declared.state.State.{State}
 use Rattle.group.specs.States.{row, noted}
 use Rattle.group.specs.Draws.{joins, arrival_leaves, drawn}
 use Rattle.group.specs.Calls.{KeyWrap, Publishing, LawfulStrategy, LawfulWrap}
-use Rattle.group.specs.Publishings.{plan_of, size_of, told_of, plan_verdict, file_verdict, publish_verdict, and_then}
+use Rattle.group.specs.Publishings.{plan_of, size_of, told_of, due_verdict, lent_verdict, plan_verdict, file_verdict, publish_verdict, and_then}
 use Rattle.group.specs.Sound.{Sound}
 use Rattle.runs.specs.Runs.{run}
 use Rattle.runs.proofs.EveryRun.{every_run}
@@ -54,25 +54,19 @@ few_arrivals r = omega (arith, kept_few (λ u. joins (code r u)) leaves, leaf_co
 few_drawn : (r : List Code) → drawn r ≤ 8160
 few_drawn r = omega (arith, length-append (arrival_leaves r) (changed_nodes r), few_arrivals r, few_changes r)
 
--- the checks of a publishing, where all pass
-abbrev checks : Bool → Bool → Bool → Bool → Bool → ℕ → ℕ → Verdict (Unit {0})
-checks nothing late tight lacking narrow d w =
-    cond nothing (refused 7 []) (cond late (refused 8 []) (cond tight (refused 9 [])
-    (cond lacking (refused 10 (d ∷ [])) (cond narrow (refused 11 (w ∷ [])) (Ok tt)))))
-
-all_pass : (a b c d e : Bool) (n w : ℕ) → a ≡ false → b ≡ false → c ≡ false → d ≡ false → e ≡ false → checks a b c d e n w ≡ Ok tt
-all_pass a b c d e n w p q r s t =
-    ap₂ (λ x y. checks x y c d e n w) p q ∙ ap₂ (λ x y. checks false false x y e n w) r s ∙ ap (λ x. checks false false false false x n w) t
-
 -- what is lent is enough where it is enough for this change
 module _ (s : State) (p : Publishing) (some : noted s ≡ true) (early : s.epoch < 1000000) (work : 512 ≤ length p.work)
     (material : drawn (row s) ≤ length p.material) (pairs : length (plan_of s p) ≤ length p.pairs) where
+  due_passes : due_verdict s ≡ Ok tt
+  due_passes = rw some (rw (lt-leb 1000000 s.epoch early) refl)
+
+  lent_passes : lent_verdict s p ≡ Ok tt
+  lent_passes =
+      rw (le-ltb (length p.work) 512 work)
+      (rw (le-ltb (length p.material) (drawn (row s)) material) (rw (le-ltb (length p.pairs) (length (plan_of s p)) pairs) refl))
+
   pub plan_passes : plan_verdict s p ≡ Ok tt
-  plan_passes =
-      all_pass (not (noted s)) (nat_le 1000000 s.epoch) (tight p.work)
-      (nat_lt (length p.material) (drawn (row s))) (nat_lt (length p.pairs) (length (plan_of s p)))
-      (drawn (row s)) (length (plan_of s p)) (ap not some) (lt-leb 1000000 s.epoch early) (le-ltb (length p.work) 512 work)
-      (le-ltb (length p.material) (drawn (row s)) material) (le-ltb (length p.pairs) (length (plan_of s p)) pairs)
+  plan_passes = ap (λ v. and_then v (lent_verdict s p)) due_passes ∙ lent_passes
 
   pub publish_passes : size_of s p ≤ length p.file → publish_verdict s p ≡ Ok (told_of s p)
   publish_passes room =
