@@ -72,5 +72,3 @@ pub record FileLaws : Type 0 where
       (row : List Code) (plan : List Pair) (epoch : ℕ) (former present : Keys) → changed row 1 ≡ true → Lawful row plan →
       (1 ≤ epoch) × (epoch ≤ 1000000) → Timely row epoch former present →
       Sound L (rekey_of kind seals epoch (changed_nodes row) plan former present)
-  -- 7 wraps of 40 sealed bytes over 7 nodes, then 14; 896 of 48 over all inner nodes; 7 nodes and no wraps
-  pub sizes : (file_size 40 7 7 ≡ 339) × ((file_size 40 7 14 ≡ 661) × ((file_size 48 127 896 ≡ 48521) × (file_size 40 7 0 ≡ 17)))

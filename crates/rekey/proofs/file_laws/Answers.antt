@@ -1,4 +1,3 @@
-use Rattle.std.proofs.Common.{refl}
 use Rattle.rekey.proofs.Returned.{returned}
 use Rattle.rekey.proofs.Accepted.{accepted_was_written}
 use Rattle.rekey.proofs.Planned.{plan_is_sound}
@@ -9,5 +8,4 @@ returns c = record {
   sound_returns = returned;
   accepted_was_written = accepted_was_written;
   plan_is_sound = plan_is_sound;
-  sizes = (refl, (refl, (refl, refl)));
 }
