@@ -1,9 +1,9 @@
 -- The state of a server.
-use Rattle.std.specs.Prelude.{ℕ, ◌+◌, ◌-◌, Bool, false, List, map, replicate, Some, None, Option, position, slice_index_or, nat_eq}
+use Rattle.std.specs.Prelude.{ℕ, ◌+◌, ◌-◌, Bool, false, cond, List, map, replicate, Some, None, Option, position, slice_index_or, nat_eq}
 use Rattle.std.specs.List.{list_any}
 use Rattle.tree.specs.declared.types.Code.{Code}
 use Rattle.tree.specs.Rows.{moves}
-use Rattle.keys.specs.Names.{unmade}
+use Rattle.keys.specs.Names.{unmade, held}
 use Rattle.cradles.specs.declared.Cradle.{Cradle}
 use Rattle.cradles.specs.declared.Cradle.TheVariants.{Empty}
 use Rattle.cradles.specs.Cradles.{code_of, seated, holder}
@@ -41,3 +41,7 @@ held_by x s = position (λ c. is_it x (holder c)) s.cradles
 -- something is noted: an arrival or a departure
 abbrev pub noted : State → Bool
 noted s = list_any (λ c. moves (code_of c)) s.cradles
+
+-- the group key: the root's, and none in epoch 0
+abbrev pub group_key_of : State → Option (List ℕ)
+group_key_of s = cond (nat_eq s.epoch 0) None (Some (held s.nodes 1).key)

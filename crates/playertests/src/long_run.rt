@@ -244,7 +244,7 @@ fn publish<S: Strategy, V: Wrap, W: Wrap>(
     run.sum.add(told.wraps);
     run.sum.add(told.bytes);
     run.sum.add(told.drawn);
-    run.sum.add_all(&run.server.group_key());
+    run.sum.add_all(&run.server.group_key().unwrap_or([0; 32]));
     let bytes = told.bytes;
     assert!(rt; 0 < bytes && bytes <= 6000);
     for scanner in scanners {

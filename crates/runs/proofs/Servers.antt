@@ -8,6 +8,8 @@ use Rattle.group.specs.Steps.{after}
 use Rattle.group.specs.Sound.{Sound}
 use Rattle.group.proofs.EveryCall.{state_laws}
 use Rattle.runs.specs.Runs.{FromRun}
+use Rattle.runs.specs.Law.{LawOf}
+use Rattle.runs.proofs.EveryRun.{every_run}
 
 pub new_kept : Sound new_state × ∥ FromRun new_state ∥₁
 new_kept = (state_laws.new_sound, ∣ ([], (tt, refl)) ∣₁)
@@ -18,3 +20,8 @@ module _ (c : Call) (given : Given c) (s t : State) (is : t ≡ after s c) where
 
   pub run_after : ∥ FromRun s ∥₁ → ∥ FromRun t ∥₁
   run_after from = ∥∥₁_map from (λ r. (c ∷ r.0, ((given, r.1.0), ap (λ u. after u c) r.1.1 ∙ sym is)))
+
+-- all that holds of runs holds of a server that comes from one
+pub law_of : (s : State) → ∥ FromRun s ∥₁ → ∥ LawOf s ∥₁
+law_of s from =
+    ∥∥₁_map from (λ r. record { calls = r.0; given = r.1.0; is_server = r.1.1; holds = every_run r.0 r.1.0 })

@@ -145,3 +145,10 @@ pub record GroupKeys (calls : List Call) : Type 0 where
 -- strategies and wraps that keep their laws
 abbrev pub EveryRun : Type 0
 EveryRun = (calls : List Call) → AllGiven calls → GroupKeys calls
+
+-- the law of one server: calls with lawful strategies and wraps that make it what it is, and all that holds after them
+pub record LawOf (s : State) : Type 0 where
+  pub calls : List Call
+  pub given : AllGiven calls
+  pub is_server : (run calls).server ≡ s
+  pub holds : GroupKeys calls

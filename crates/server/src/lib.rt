@@ -4,14 +4,13 @@
 ghost use Rattle.std.specs.Prelude.{◌≡◌};
 ghost use Rattle.refusal.specs.Refusals.{told};
 ghost use Rattle.wrap.specs.Calls.{wiped};
-ghost use Rattle.keys.specs.Names.{held};
-ghost use Rattle.group.specs.States.{new_state};
+ghost use Rattle.group.specs.States.{new_state, group_key_of};
 ghost use Rattle.group.specs.Calls.{key_wrap, publishing, admit, remove, drop_notes, publish};
 ghost use Rattle.group.specs.Notes.{admit_verdict, remove_verdict};
 ghost use Rattle.group.specs.Cards.{card_verdict, card_leaves};
 ghost use Rattle.group.specs.Publishings.{publish_verdict, publish_pairs, publish_file};
 ghost use Rattle.group.specs.Steps.{after};
-ghost use Rattle.runs.specs.Law.{EveryRun};
+ghost use Rattle.runs.specs.Law.{EveryRun, LawOf};
 ghost use Rattle.server.specs.Refusals.{admit_refusal, remove_refusal, card_refusal, publish_refusal};
 
 mod card;
@@ -35,7 +34,7 @@ impl Server {
     /// of their players holds it.
     #[tactic(auto, using(runs::proofs::EveryRun::every_run, runs::proofs::Servers::new_kept))]
     pub fn new() -> Server
-        ensures server { result.state ≡ new_state }
+        ensures server { result ≡ new_state }
         ensures belongs_to_members { EveryRun }
     {
         Server {
@@ -52,23 +51,23 @@ impl Server {
 
     /// Notes that a scanner arrives at a cradle.
     pub fn admit(&mut self, serial: u32, cradle: u32) -> Result<(), AdmitFault>
-        ensures answer { told admit_refusal result ≡ admit_verdict self.old.state serial cradle }
-        ensures server { self.new.state ≡ after self.old.state (admit serial cradle) }
+        ensures answer { told admit_refusal result ≡ admit_verdict self.old serial cradle }
+        ensures server { self.new ≡ after self.old (admit serial cradle) }
     {
         notes::admit(&mut self.state, serial, cradle)
     }
 
     /// Notes that a scanner departs from its cradle.
     pub fn remove(&mut self, serial: u32) -> Result<(), RemoveFault>
-        ensures answer { told remove_refusal result ≡ remove_verdict self.old.state serial }
-        ensures server { self.new.state ≡ after self.old.state (remove serial) }
+        ensures answer { told remove_refusal result ≡ remove_verdict self.old serial }
+        ensures server { self.new ≡ after self.old (remove serial) }
     {
         notes::remove(&mut self.state, serial)
     }
 
     /// Clears all notes.
     pub fn drop_notes(&mut self)
-        ensures { self.new.state ≡ after self.old.state drop_notes }
+        ensures { self.new ≡ after self.old drop_notes }
     {
         notes::drop_notes(&mut self.state)
     }
@@ -84,10 +83,18 @@ impl Server {
         file: &mut [u8],
         work: &mut [u8],
     ) -> Result<Published, PublishFault>
-        ensures answer { told publish_refusal result ≡ publish_verdict self.old.state (publishing S.planned (key_wrap W.wrap_kind W.wrap_length W.sealed W.opened) material.now pairs.old file.old work.old) }
-        ensures server { self.new.state ≡ after self.old.state (publish (publishing S.planned (key_wrap W.wrap_kind W.wrap_length W.sealed W.opened) material.now pairs.old file.old work.old)) }
-        ensures planned { pairs.new ≡ publish_pairs self.old.state (publishing S.planned (key_wrap W.wrap_kind W.wrap_length W.sealed W.opened) material.now pairs.old file.old work.old) }
-        ensures written { file.new ≡ publish_file self.old.state (publishing S.planned (key_wrap W.wrap_kind W.wrap_length W.sealed W.opened) material.now pairs.old file.old work.old) }
+        ensures answer { told publish_refusal result ≡ publish_verdict self.old
+            (publishing S.planned (key_wrap W.wrap_kind W.wrap_length W.sealed W.opened)
+            material.now pairs.old file.old work.old) }
+        ensures server { self.new ≡ after self.old
+            (publish (publishing S.planned (key_wrap W.wrap_kind W.wrap_length W.sealed W.opened)
+            material.now pairs.old file.old work.old)) }
+        ensures planned { pairs.new ≡ publish_pairs self.old
+            (publishing S.planned (key_wrap W.wrap_kind W.wrap_length W.sealed W.opened)
+            material.now pairs.old file.old work.old) }
+        ensures written { file.new ≡ publish_file self.old
+            (publishing S.planned (key_wrap W.wrap_kind W.wrap_length W.sealed W.opened)
+            material.now pairs.old file.old work.old) }
         ensures cleared { work.new ≡ wiped work.old }
     {
         publish::publish(&mut self.state, strategy, wrap, material, pairs, file, work)
@@ -95,23 +102,24 @@ impl Server {
 
     /// Writes the card of a scanner that is in a cradle to the front of `buffer`.
     pub fn card(&self, serial: u32, buffer: &mut [u8]) -> Result<(), CardFault>
-        ensures answer { told card_refusal result ≡ card_verdict self.now.state serial buffer.old }
-        ensures written { buffer.new ≡ card_leaves self.now.state serial buffer.old }
+        ensures answer { told card_refusal result ≡ card_verdict self.now serial buffer.old }
+        ensures written { buffer.new ≡ card_leaves self.now serial buffer.old }
     {
         card::card(&self.state, serial, buffer)
     }
 
     /// The epoch: how many publishings there were.
     pub fn epoch(&self) -> u32
-        ensures { result ≡ self.now.state.epoch }
+        ensures { result ≡ self.now.epoch }
     {
         self.state.epoch
     }
 
-    /// The group key of the epoch: the root's key.
-    pub fn group_key(&self) -> [u8; 32]
-        ensures { result ≡ (held self.now.state.nodes 1).key }
+    /// The group key of the epoch: the root's key. There is none in epoch 0.
+    pub fn group_key(&self) -> Option<[u8; 32]>
+        ensures key { result ≡ group_key_of self.now }
+        ensures belongs_to_members { ∥ LawOf self.now ∥₁ }
     {
-        self.state.nodes[1].key
+        (self.state.epoch > 0).then_some(self.state.nodes[1].key)
     }
 }

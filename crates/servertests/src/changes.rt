@@ -13,7 +13,7 @@ fn two_cradles_filled_and_one_emptied(rt: HostRuntime) {
     let rt = &rt;
     let strategy = KeyOriented::default();
     let mut server = Server::new();
-    assert!(rt; server.epoch() == 0 && server.group_key() == [0; 32]);
+    assert!(rt; server.epoch() == 0 && server.group_key().is_none());
     assert!(rt; server.admit(4711, 1).is_ok());
     let file = published(rt, &mut server, &strategy, &KeyWrap, told(1, 7, 339, 256));
     assert!(rt; file.starts_with(&FILLED));

@@ -106,7 +106,7 @@ fn publish<S: Strategy, W: Wrap>(
         }
     }
     run.add_all(&file);
-    run.add_all(&server.group_key());
+    run.add_all(&server.group_key().unwrap_or([0; 32]));
 }
 
 fn publish_by_any(rt: &impl Abort, run: &mut Run, server: &mut Server) {

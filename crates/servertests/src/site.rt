@@ -49,7 +49,7 @@ pub(crate) fn card(server: &Server, serial: u32) -> Option<[u8; 39]> {
 #[derive(Clone, Copy, PartialEq, Eq)]
 pub(crate) struct View {
     epoch: u32,
-    group_key: [u8; 32],
+    group_key: Option<[u8; 32]>,
     cards: [Option<[u8; 39]>; 5],
 }
 
@@ -89,7 +89,12 @@ pub(crate) fn published<S: Strategy, W: Wrap>(
     assert!(rt; pairs.iter().skip(want.wraps).all(|pair| *pair == NO_PAIR));
     assert!(rt; file.iter().skip(want.bytes).all(|byte| *byte == BLANK));
     assert_eq!(rt; server.epoch(), want.epoch);
-    assert!(rt; material[want.drawn - 32..want.drawn].starts_with(&server.group_key()));
+    let drawn_last = &material[want.drawn - 32..want.drawn];
+    assert!(rt;
+        server
+            .group_key()
+            .is_some_and(|key| drawn_last.starts_with(&key))
+    );
     let Ok(()) = check(wrap, &file[..want.bytes]) else {
         assert!(rt; false, "the file is refused");
         return file;

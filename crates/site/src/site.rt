@@ -211,7 +211,7 @@ fn is_member(server: &Server, board: &Board) -> bool {
 
 // How many members hold the server's group key, and how many members there are.
 fn count(server: &Server, boards: &[Board]) -> (usize, usize) {
-    let key = Some(server.group_key());
+    let key = server.group_key();
     let members = boards.iter().filter(|board| is_member(server, board));
     let holders = boards.iter().filter(|board| is_member(server, board)
         && board.group_key() == key);

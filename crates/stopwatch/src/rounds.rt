@@ -122,7 +122,7 @@ pub(crate) fn play_round<W: Wrap>(
             let bytes = published.bytes;
             let file = &buffers.file.as_slice()[..bytes];
             let (reading, key) = read_file(rt, &server, wrap, file)?;
-            if key != server.group_key() {
+            if Some(key) != server.group_key() {
                 return Err(anyhow!("the player does not hold the server's group key"));
             }
             Ok(Round {

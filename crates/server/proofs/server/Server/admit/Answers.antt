@@ -4,6 +4,7 @@ use Rattle.server.proofs.server.Server.admit.Goals as goal
 
 pub invariant_of-self : goal.invariant_of-self
 invariant_of-self c =
-    let old = c.args.self.now in
+    let old = c.self.inside.state in
+    let call = (admit c.args.serial c.args.cradle) in
     let is = c.admit.ensures.server in
-    record { sound = sound_after (admit c.args.serial c.args.cradle) tt old.state c.admit.new.state is old.sound; run = run_after (admit c.args.serial c.args.cradle) tt old.state c.admit.new.state is old.run }
+    (sound_after call tt old c.admit.new.state is c.self.invariant.0, run_after call tt old c.admit.new.state is c.self.invariant.1)

@@ -4,6 +4,7 @@ use Rattle.server.proofs.server.Server.drop_notes.Goals as goal
 
 pub invariant_of-self : goal.invariant_of-self
 invariant_of-self c =
-    let old = c.args.self.now in
+    let old = c.self.inside.state in
+    let call = drop_notes in
     let is = c.drop_notes.ensures in
-    record { sound = sound_after (drop_notes) tt old.state c.drop_notes.new.state is old.sound; run = run_after (drop_notes) tt old.state c.drop_notes.new.state is old.run }
+    (sound_after call tt old c.drop_notes.new.state is c.self.invariant.0, run_after call tt old c.drop_notes.new.state is c.self.invariant.1)

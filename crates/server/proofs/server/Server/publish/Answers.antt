@@ -6,7 +6,7 @@ use Rattle.server.proofs.server.Server.publish.Goals as goal
 
 pub invariant_of-self : goal.invariant_of-self
 invariant_of-self g c =
-    let old = c.args.self.now in
+    let old = c.self.inside.state in
     let w = g.W.Wrap in
     let laws = g.met.W.Wrap in
     let call : Call = publish (publishing g.S.Strategy.planned (key_wrap w.wrap_kind w.wrap_length w.sealed w.opened) c.args.material.now c.args.pairs.now c.args.file.now c.args.work.now) in
@@ -19,4 +19,7 @@ invariant_of-self g c =
     } in
     let given : Given call = (g.met.S.Strategy.lawful, (wrap, bytes_at c.args.material.now (λ i. Fits-lt-pow (c.type_inv.material i)))) in
     let is = c.publish.ensures.server in
-    record { sound = sound_after call given old.state c.publish.new.state is old.sound; run = run_after call given old.state c.publish.new.state is old.run }
+    (sound_after call given old c.publish.new.state is c.self.invariant.0, run_after call given old c.publish.new.state is c.self.invariant.1)
+
+pub returns-clause-written : goal.returns-clause-written
+returns-clause-written g c = rw c.self.view_is at c.publish.ensures.written

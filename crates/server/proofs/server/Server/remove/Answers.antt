@@ -4,6 +4,7 @@ use Rattle.server.proofs.server.Server.remove.Goals as goal
 
 pub invariant_of-self : goal.invariant_of-self
 invariant_of-self c =
-    let old = c.args.self.now in
+    let old = c.self.inside.state in
+    let call = (remove c.args.serial) in
     let is = c.remove.ensures.server in
-    record { sound = sound_after (remove c.args.serial) tt old.state c.remove.new.state is old.sound; run = run_after (remove c.args.serial) tt old.state c.remove.new.state is old.run }
+    (sound_after call tt old c.remove.new.state is c.self.invariant.0, run_after call tt old c.remove.new.state is c.self.invariant.1)
