@@ -1,6 +1,6 @@
--- The rule for the way up through a file, beside the definition that computes it: a player goes from
--- the leaf's parent to the root, and for each listed node it takes the first wrap with that content
--- whose opener, by node and epoch, is in the ring as updated so far.
+-- The rule for the way up through a file, beside the definition that computes it. A player goes
+-- from the leaf's parent to the root. For each listed node it takes the first wrap with that
+-- content whose opener, by node and epoch, is in the ring as updated so far.
 use Rattle.std.specs.Prelude.{◌≡◌, ℕ, ◌<◌, ◌≤◌, ◌⊎◌, List, [], ◌∷◌, ◌++◌, length, take, drop, Some, None, slice_index_or}
 use Rattle.refusal.specs.Refusals.{Refusal, no}
 use Rattle.tree.specs.Tree.{halved}
