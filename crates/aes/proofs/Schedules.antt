@@ -81,9 +81,11 @@ module _ (nk : ℕ) (some : 1 ≤ nk) (key : List ℕ) where
       let x = next_word nk w (nk + n) in
       let r = expanded_rules long n in
       let four = next_length w (nk + n) (omega arith) r.0 in
-      let on : nk + n + 1 ≡ nk + suc n = omega arith in
-      (length-append w x ∙ omega (arith, r.0, four), subst (λ (m : ℕ). RulesTo m (w ++ x)) on
-          (rules_more (nk + n) w (w ++ x) (omega arith) (λ i l. word_before w x (nk + n) i r.0 l) (word_behind w x (nk + n) r.0 four) r.1))
+      let on : nk + n + 1 ≡ nk + suc n = omega arith in (
+        length-append w x ∙ omega (arith, r.0, four),
+        subst (λ (m : ℕ). RulesTo m (w ++ x)) on
+            (rules_more (nk + n) w (w ++ x) (omega arith) (λ i l. word_before w x (nk + n) i r.0 l) (word_behind w x (nk + n) r.0 four) r.1),
+      )
 
   -- two schedules have the same words, by those that come before each
   one_by_rules : (n : ℕ) (w v : List ℕ) → RulesTo n w → RulesTo n v → (k i : ℕ) → i ≤ k → i < n → word w i ≡ word v i
@@ -93,7 +95,7 @@ module _ (nk : ℕ) (some : 1 ≤ nk) (key : List ℕ) where
     | inr g ↦
         a.later_words i g l
         ∙ ap₂ (λ x y. xors x (temp nk i y)) (one_by_rules n w v a b k (i - nk) (omega arith) (omega arith))
-          (one_by_rules n w v a b k (i - 1) (omega arith) (omega arith))
+        (one_by_rules n w v a b k (i - 1) (omega arith) (omega arith))
         ∙ sym (b.later_words i g l)
   ]
 

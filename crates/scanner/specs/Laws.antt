@@ -41,7 +41,7 @@ pub record Arriving (s : State) (material : List ℕ) (leaf : ℕ) (ring : List 
   pub arrives : joins (code (row s) leaf) ≡ true
   pub holds : ring ≡ entry_bytes (held (published s material).nodes leaf) ++ replicate 252 0
 
--- what holds of players, whatever file they are handed
+-- what holds of every player
 pub record PlayerLaws : Type 0 where
   -- what the search finds opens, and no wrap before it does; if it finds none, none does
   pub found_opens : (ring : List NodeKey) (leaf node : ℕ) (wraps : List Wrapped) (it : Found) → found_from ring leaf node 0 wraps ≡ Some it →
