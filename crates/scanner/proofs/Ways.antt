@@ -85,7 +85,7 @@ module _ (w : KeyWrap) (f : Rekey) (leaf : ℕ) (old : List NodeKey) (eight : le
         let here : held (set ring k entry) k ≡ entry = get_or-set_same ring k entry unmade (omega (arith, u.size, eight)) in
         let there : (j : ℕ) → j < k → held (set ring k entry) j ≡ held ring j = λ j b. get_or-set_other ring k j entry unmade (λ e. omega arith) in
         let before : (j : ℕ) → j ≤ k → ring_so_far j ring old ≡ ring_so_far j (set ring k entry) old =
-          λ j b. ap (λ t. t ++ drop j old) (sym (take-set-le j ring k entry b)) in
+        λ j b. ap (λ t. t ++ drop j old) (sym (take-set-le j ring k entry b)) in
         record {
           size = length-set ring k entry ∙ u.size;
           rest_stays = drop-set-lt (k + 1) ring k entry (omega arith) ∙ rest_old;
@@ -213,10 +213,10 @@ module _ (w : KeyWrap) (f : Rekey) (leaf : ℕ) (old : List NodeKey) (eight : le
           let level : t.level ≡ s.level = omega arith in
           let same = entries_same s.level t.level s.ring t.ring s.until_then t.until_then t.level g (omega arith) (omega (arith, t.on_the_way.1)) in
           let ring : t.ring ≡ s.ring =
-            is_so_far t.level t.on_the_way.0 t.on_the_way.1 t.ring t.until_then
-            ∙ sym (same_so_far s.level t.level s.ring t.ring s.until_then t.until_then t.level same)
-            ∙ ap (λ k. ring_so_far k s.ring old) level
-            ∙ sym (is_so_far s.level s.on_the_way.0 s.on_the_way.1 s.ring s.until_then) in
+          is_so_far t.level t.on_the_way.0 t.on_the_way.1 t.ring t.until_then
+          ∙ sym (same_so_far s.level t.level s.ring t.ring s.until_then t.until_then t.level same)
+          ∙ ap (λ k. ring_so_far k s.ring old) level
+          ∙ sym (is_so_far s.level s.on_the_way.0 s.on_the_way.1 s.ring s.until_then) in
           one_why (halved s.level leaf) s.ring r q s.why
           (subst (λ x. Why (halved s.level leaf) x q) ring (subst (λ k. Why (halved k leaf) t.ring q) level t.why))
     ]
