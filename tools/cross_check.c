@@ -828,6 +828,14 @@ static uint8_t stack[STACK];
 static ucontext_t here, there;
 static size_t deepest;
 
+/* The most keys of a way that one read left there, by kinds. */
+typedef struct {
+    unsigned whole;
+    unsigned halves;
+} left_keys;
+
+static left_keys most_left[2];
+
 /* How much of the paint is gone. */
 static size_t stack_used(void)
 {
@@ -851,6 +859,28 @@ static void on_stack(void (*run)(void))
     if (stack_used() > deepest)
         deepest = stack_used();
     expect(deepest < STACK_PROMISED, "it took 8 KiB of stack or more");
+}
+
+static bool is_on_stack(const uint8_t *bytes, size_t count)
+{
+    for (size_t i = 0; i + count <= STACK; i++)
+        if (memcmp(stack + i, bytes, count) == 0)
+            return true;
+    return false;
+}
+
+/* Counts the keys of the way that stand on the painted stack: those of the ring, among them all that the file's wraps opened to. */
+static void count_keys_left(left_keys *most)
+{
+    left_keys left = {0};
+    for (int k = 0; k < 8; k++) {
+        left.whole += is_on_stack(way.key[k], 32);
+        left.halves += is_on_stack(way.key[k], 16) + is_on_stack(way.key[k] + 16, 16);
+    }
+    if (left.whole > most->whole)
+        most->whole = left.whole;
+    if (left.halves > most->halves)
+        most->halves = left.halves;
 }
 
 static void seal_there(void)
@@ -899,6 +929,7 @@ static void check_stack(void)
     on_stack(enrol_there);
     settle(&ring);
     on_stack(read_there);
+    count_keys_left(&most_left[kind - 1]);
     settle(&ring);
     on_stack(show_there);
     on_stack(wipe_there);
@@ -916,6 +947,11 @@ static uint64_t number_of(const char *word)
         exit(2);
     }
     return n;
+}
+
+static void show_left(unsigned k, const left_keys *left)
+{
+    printf("kind %u: a read left %u of the ring's 8 keys on its stack, and %u of their 16 halves\n", k, left->whole, left->halves);
 }
 
 static void show_wraps(unsigned k, const wrap_counts *c)
@@ -957,6 +993,8 @@ int main(int count, char **words)
     for (kind = 1; kind <= 2; kind++)
         for (case_number = 0; case_number < 100; case_number++)
             check_stack();
+    for (unsigned k = 1; k <= 2; k++)
+        show_left(k, &most_left[k - 1]);
     show_wraps(1, &counts[0]);
     show_wraps(2, &counts[1]);
     printf("player: enrolled %" PRIu64 ", read %" PRIu64 ", shown %" PRIu64 ", wiped %" PRIu64 ", refused %" PRIu64 ", misuse %" PRIu64

@@ -1,7 +1,8 @@
 #!/bin/sh
-# Checks that misuses are still turned down: a waiting player asked for the group key, a wiped player given a file, and a key wrap that
-# seals without the checks of the interface. Each is a small crate in a copy of this tree; the checker has to refuse it with the message
-# that docs/player.md and docs/wraps.md show. Not a part of the gate, since there an edit that does not compile counts as a bad edit.
+# Checks that six misuses are still turned down: a waiting player asked for the group key, a wiped player given a file, a seated player
+# made of the numbers of a waiting one, a stored player restored twice, a player cloned, and a key wrap that seals without the checks of
+# the interface. Each is a small crate in a copy of this tree; the checker has to refuse it with the message that docs/player.md and
+# docs/wraps.md show. Not a part of the gate, since there an edit that does not compile counts as a bad edit.
 #
 # usage: tools/misuses.sh
 set -eu
@@ -56,6 +57,46 @@ pub fn read_on<W: Wrap>(
     work: &mut [u8],
 ) -> Option<Seated> {
     player.read(wrap, file, ring, work).ok()
+}
+CRATE
+
+turned_down "a seated player is made of the numbers of a waiting one" \
+    'field `serial` of struct `Waiting` is private' <<'CRATE'
+//! A seated player is made of the numbers of a waiting one.
+#![tactic(auto)]
+
+use player::{Seated, Waiting};
+
+pub fn seated_early(player: &Waiting) -> Seated {
+    Seated {
+        serial: player.serial,
+        leaf: player.leaf,
+        epoch: player.epoch,
+    }
+}
+CRATE
+
+turned_down "a stored player is restored twice" \
+    'use of moved value: `stored`' <<'CRATE'
+//! A stored player is restored twice.
+#![tactic(auto)]
+
+use player::{AnyPlayer, Stored};
+
+pub fn two_players(stored: Stored) -> (Option<AnyPlayer>, Option<AnyPlayer>) {
+    (AnyPlayer::restore(stored), AnyPlayer::restore(stored))
+}
+CRATE
+
+turned_down "a player is cloned" \
+    '`Seated` is not `Clone`' <<'CRATE'
+//! A player is cloned.
+#![tactic(auto)]
+
+use player::Seated;
+
+pub fn second(player: &Seated) -> Seated {
+    player.clone()
 }
 CRATE
 
