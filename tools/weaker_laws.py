@@ -20,6 +20,9 @@ BOOK = "runs/specs/Book.antt"
 PLAYERS = "runs/specs/Players.antt"
 AGREEMENT = "runs/proofs/Agreement.antt"
 SEATED = "runs/proofs/Seated.antt"
+COURSES = "runs/proofs/Courses.antt"
+EVERY_RUN = "runs/proofs/EveryRun.antt"
+PLAYING = "runs/proofs/Playing.antt"
 
 NEW_SEATS = "map (seat_from (b.epoch + 1)) b.arrivals ++ filter (λ t. not (departing b t)) b.seats"
 NEXT_SEAT = """seat_next b t i = elim (in_append (map (seat_from (b.epoch + 1)) b.arrivals) (filter (λ u. not (departing b u)) b.seats) t i) [
@@ -39,6 +42,24 @@ STAYING_SEAT = """in_right (map (seat_from (b.epoch + 1)) b.arrivals) (filter (�
                   (kept_in (λ t. not (departing b t)) b.seats s.0 s.1.0 (ap not stays))"""
 STAYING_MEMBER = """in_right (map (seat_from (b.epoch + 1)) b.arrivals) (filter (λ t. not (departing b t)) b.seats) m.stay.seat
             (kept_in (λ t. not (departing b t)) b.seats m.stay.seat i (ap not d))"""
+
+# what the proofs go on with: the definition of a card that was given, as it was
+CARD_GIVEN = """pub record CardGiven (run_calls : List Call) (t : Seat) (bytes : List ℕ) : Type 0 where
+  pub later : List Call
+  pub earlier : List Call
+  pub buffer : List ℕ
+  pub is_call : run_calls ≡ later ++ (card t.serial buffer ∷ earlier)
+  pub was_seat : In t (run earlier).book.seats
+  pub was_accepted : card_verdict (run earlier).server t.serial buffer ≡ Ok tt
+  pub was_written : bytes ≡ take 39 (card_leaves (run earlier).server t.serial buffer)
+
+abbrev pub PlaysAt : Site"""
+GIVEN_NOW = """(record {
+        later = handed_out.later; earlier = handed_out.earlier; buffer = handed_out.buffer; is_call = handed_out.is_call;
+        was_seat = handed_out.was_seat; was_accepted = handed_out.was_accepted; was_written = handed_out.was_written;
+      })"""
+STILL_SEATED = """is_seat = subst (λ (k : Book). In t k.seats) (sym (ap (λ v. told w.book (calling.card t.serial buffer) (is_err v)) c.0)) i;
+        was_seat = i;"""
 
 # name, what it leaves, the crate that refuses it, the lemmas that are false then, and the replacements: file, old, new
 WEAKER = [
@@ -80,7 +101,55 @@ WEAKER = [
                 "(x : Edition) (work : List ℕ) → 512 ≤ length work →",
                 "(x : Edition) (work : List ℕ) → (512 ≤ length work) × (length work ≤ 511) →",
             ),
-            ("runs/proofs/Courses.antt", "does b q r work h c", "does b q r work h.0 c"),
+            (COURSES, "does b q r work h c", "does b q r work h.0 c"),
+        ],
+    ),
+    (
+        "asides_only_show",
+        "a course has no place for a call that was refused",
+        "examples",
+        ["refused_course", "player"],
+        [
+            (PLAYERS, "Aside a p ring = (a ≡ show) ⊎ (is_refused a p ring ≡ true)", "Aside a p ring = a ≡ show"),
+            (COURSES, "aside_keeps a l p ring (inl e) =", "aside_keeps a l p ring e ="),
+            (COURSES, "  aside_keeps a own p ring (inr e) = laws.refused_keeps a p ring e\n", ""),
+            (COURSES, "  aside_keeps a (other bytes) p ring (inr e) = ((laws.refused_keeps a p bytes e).0, refl)\n", ""),
+        ],
+    ),
+    (
+        "cards_only_of_seats",
+        "a card counts as given only while its stay is still a seat",
+        "examples",
+        ["card_given"],
+        [
+            (
+                PLAYERS,
+                "  pub was_seat : In t (run earlier).book.seats\n",
+                "  pub was_seat : In t (run earlier).book.seats\n  pub is_seat : In t (run run_calls).book.seats\n",
+            ),
+            (PLAYING, "{CardGiven, card_of}", "{card_of}"),
+            (PLAYING, "abbrev pub PlaysAt : Site", CARD_GIVEN),
+            (EVERY_RUN, "sym (p.cards_are card handed_out)", f"sym (p.cards_are card {GIVEN_NOW})"),
+            (EVERY_RUN, "        was_seat = i;", f"        {STILL_SEATED}"),
+            (
+                EVERY_RUN,
+                "use Rattle.runs.specs.Book.{Seat}\n",
+                "use Rattle.runs.specs.Book.{Seat, Book, told}\nuse Rattle.std.specs.Result.{is_err}\n",
+            ),
+        ],
+    ),
+    (
+        "newest_epoch_only",
+        "whose keys reach a group key is said of the newest epoch alone",
+        "examples",
+        ["reaches", "reached_in"],
+        [
+            (
+                "runs/specs/Law.antt",
+                "pub reached_by_members : (serials : List ℕ) (e : ℕ) →",
+                "pub reached_by_members : (serials : List ℕ) (e : ℕ) → e ≡ (run calls).book.epoch →",
+            ),
+            (EVERY_RUN, "reached_by_members = λ serials e. (", "reached_by_members = λ serials e newest. ("),
         ],
     ),
 ]
