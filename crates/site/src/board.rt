@@ -1,7 +1,20 @@
 //! The board of a scanner: its card, its player and its ring.
+ghost use Rattle.std.specs.Prelude.{◌≡◌, IfOk};
+ghost use Rattle.group.specs.Calls.{key_wrap};
+ghost use Rattle.scanner.specs.Players.{read, wipe, after, leaves};
+ghost use Rattle.player.specs.Stored.{player_of};
+ghost use Rattle.site.specs.Boards.{IsOnCourse, IsPlayed, StaysOnCourse};
 
 use player::{AnyPlayer, CARD_BYTES, EnrolFault, RING_BYTES, ReadFault, Refused, enrol};
 use wrap::{WORKING_BYTES, Wrap};
+
+// The player that is enrolled with the card.
+fn enrolled_player(card: &[u8], ring: &mut [u8]) -> Result<AnyPlayer, EnrolFault>
+    ensures { IfOk result (λ p. ∥ IsOnCourse card.now (player_of p) ring.new ∥₁) }
+{
+    let player = enrol(card, ring)?;
+    Ok(AnyPlayer::from(player))
+}
 
 // A wiped player reads no file, and so meets no fault.
 fn read<W: Wrap>(
@@ -10,7 +23,14 @@ fn read<W: Wrap>(
     file: &[u8],
     ring: &mut [u8],
     work: &mut [u8],
-) -> (AnyPlayer, Option<ReadFault>) {
+) -> (AnyPlayer, Option<ReadFault>)
+    ensures player { player_of result.0
+        ≡ after (read (key_wrap W.wrap_kind W.wrap_length W.sealed W.opened) file.now work.old)
+        (player_of player) ring.old }
+    ensures ring { ring.new
+        ≡ leaves (read (key_wrap W.wrap_kind W.wrap_length W.sealed W.opened) file.now work.old)
+        (player_of player) ring.old }
+{
     match player {
         AnyPlayer::Waiting(player) => match player.read(wrap, file, ring, work) {
             Ok(seated) => (AnyPlayer::from(seated), None),
@@ -24,8 +44,24 @@ fn read<W: Wrap>(
     }
 }
 
+// A read with working bytes of its own.
+fn read_once<W: Wrap>(
+    player: AnyPlayer,
+    wrap: &W,
+    file: &[u8],
+    ring: &mut [u8],
+) -> (AnyPlayer, Option<ReadFault>)
+    ensures { StaysOnCourse (player_of player) ring.old (player_of result.0) ring.new }
+{
+    let mut work = [0; WORKING_BYTES];
+    read(player, wrap, file, ring, &mut work)
+}
+
 // A ring of a board has 288 bytes, so no wiping is refused.
-fn wipe(player: AnyPlayer, ring: &mut [u8]) -> AnyPlayer {
+fn wipe(player: AnyPlayer, ring: &mut [u8]) -> AnyPlayer
+    ensures player { player_of result ≡ after wipe (player_of player) ring.old }
+    ensures ring { ring.new ≡ leaves wipe (player_of player) ring.old }
+{
     match player {
         AnyPlayer::Waiting(player) => match player.wipe(ring) {
             Ok(wiped) => AnyPlayer::from(wiped),
@@ -46,17 +82,19 @@ pub(crate) struct Board {
     ring: [u8; RING_BYTES],
     // It is out only while a call moves it.
     player: Option<AnyPlayer>,
+    // It is enrolled with the card, the ring is its own, and it accepts what it is given to read.
+    ghost played: { ∥ IsPlayed card player ring ∥₁ },
 }
 
 impl Board {
     /// A board that is enrolled with the card.
     pub(crate) fn enrolled(card: [u8; CARD_BYTES]) -> Result<Board, EnrolFault> {
         let mut ring = [0; RING_BYTES];
-        let player = enrol(&card, &mut ring)?;
+        let player = enrolled_player(&card, &mut ring)?;
         Ok(Board {
             card,
             ring,
-            player: Some(AnyPlayer::from(player)),
+            player: Some(player),
         })
     }
 
@@ -72,8 +110,10 @@ impl Board {
 
     /// Reads a file, if it is not wiped.
     pub(crate) fn read<W: Wrap>(&mut self, wrap: &W, file: &[u8]) -> Option<ReadFault> {
-        let mut work = [0; WORKING_BYTES];
-        let (player, fault) = read(self.player.take()?, wrap, file, &mut self.ring, &mut work);
+        let Some(player) = self.player.take() else {
+            unreachable!()
+        };
+        let (player, fault) = read_once(player, wrap, file, &mut self.ring);
         self.player = Some(player);
         fault
     }
@@ -88,9 +128,10 @@ impl Board {
 
     /// Wipes its ring.
     pub(crate) fn wipe(&mut self) {
-        if let Some(player) = self.player.take() {
-            self.player = Some(wipe(player, &mut self.ring));
-        }
+        let Some(player) = self.player.take() else {
+            unreachable!()
+        };
+        self.player = Some(wipe(player, &mut self.ring));
     }
 
     /// Whether its ring holds nothing any more.
