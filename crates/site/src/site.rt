@@ -1,9 +1,12 @@
 //! A site: its server, the boards that ever were enrolled there, and its files.
+ghost use Rattle.std.specs.Prelude.{◌≡◌, ◌≤◌, length, take, IfOk, MatchResult};
+ghost use Rattle.site.specs.Sites.{AtWork, KeepsFiles, AddsFile};
 
 use crate::board::Board;
 use crate::told;
-use server::{CARD_BYTES, Server};
-use std::io;
+use group::Published;
+use server::{CARD_BYTES, PublishFault, Server};
+use std::{io, mem};
 use tree::{Opener, Pair, Strategy};
 use wrap::{WORKING_BYTES, Wrap};
 
@@ -16,6 +19,37 @@ const FILE_BYTES: usize = 48_521;
 // The scanners of this program.
 const SERIALS: [u16; 6] = [1001, 1002, 1003, 1004, 1005, 1006];
 
+// Publishes with buffers of its own for the plan and the work.
+fn publish_into<S: Strategy, W: Wrap>(
+    server: &mut Server,
+    strategy: &S,
+    wrap: &W,
+    material: &[u8],
+    file: &mut Vec<u8>,
+) -> Result<Published, PublishFault>
+    ensures drawn { IfOk result (λ published. published.drawn ≤ length material.now) }
+    ensures files { MatchResult result
+        (λ published. AddsFile server.old server.new (take published.bytes file.new.items))
+        (λ fault. KeepsFiles server.old server.new) }
+{
+    let unused = Pair {
+        opener: Opener::Present(1),
+        content: 1,
+    };
+    let mut pairs = [unused; PAIRS];
+    let mut work = [0; WORKING_BYTES];
+    server.publish(strategy, wrap, material, &mut pairs, file, &mut work)
+}
+
+// Keeps the front of a buffer as the newest file, and what was the newest as the former.
+fn keep(file: &mut Vec<u8>, former: &mut Vec<u8>, mut newest: Vec<u8>, bytes: usize)
+    ensures file { file.new.items ≡ take bytes newest.items }
+    ensures former { former.new.items ≡ file.old.items }
+{
+    newest.truncate(bytes);
+    *former = mem::replace(file, newest);
+}
+
 /// A site at work.
 #[derive(Drop)]
 pub(crate) struct Site {
@@ -24,6 +58,8 @@ pub(crate) struct Site {
     // The newest file, and the one before it.
     file: Vec<u8>,
     former: Vec<u8>,
+    // The server comes from calls, and these are the newest files of those calls.
+    ghost at_work: { ∥ AtWork server file.items former.items ∥₁ },
 }
 
 impl Site {
@@ -126,22 +162,12 @@ impl Site {
         wrap: &W,
         material: &mut &[u8],
     ) -> io::Result<bool> {
-        let unused = Pair {
-            opener: Opener::Present(1),
-            content: 1,
-        };
-        let mut pairs = [unused; PAIRS];
-        let mut file = [0; FILE_BYTES];
-        let mut work = [0; WORKING_BYTES];
+        let mut newest = vec![in rt.alloc(); 0; FILE_BYTES]?;
         print!(rt; "publish: ")?;
-        let told = self.server.publish(strategy, wrap, *material, &mut pairs, &mut file, &mut work);
-        match told {
+        match publish_into(&mut self.server, strategy, wrap, *material, &mut newest) {
             Ok(published) => {
                 *material = &material[published.drawn..];
-                self.former.clear();
-                self.former.extend_from_slice(self.file.as_slice())?;
-                self.file.clear();
-                self.file.extend_from_slice(&file[..published.bytes])?;
+                keep(&mut self.file, &mut self.former, newest, published.bytes);
                 told::published(rt, published)?;
                 Ok(true)
             }

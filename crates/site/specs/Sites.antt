@@ -1,0 +1,34 @@
+-- What is known of a site at work.
+use Rattle.std.specs.Prelude.{◌≡◌, ℕ, List, [], ◌∷◌}
+use Rattle.group.specs.declared.state.State.{State}
+use Rattle.group.specs.Calls.{Call}
+use Rattle.runs.specs.Runs.{Edition, run, AllGiven}
+
+-- the bytes of the newest of these files, where there is one
+abbrev pub newest_bytes : List Edition → List ℕ
+newest_bytes [] = []
+newest_bytes (x ∷ earlier) = x.bytes
+
+-- and of the one before it
+abbrev pub former_bytes : List Edition → List ℕ
+former_bytes [] = []
+former_bytes (x ∷ earlier) = newest_bytes earlier
+
+-- the server is what calls have made of a new one, and these are the bytes of the two newest files
+-- that it published, byte for byte
+pub record AtWork (server : State) (file former : List ℕ) : Type 0 where
+  pub calls : List Call
+  pub given : AllGiven calls
+  pub is_server : (run calls).server ≡ server
+  pub is_newest : newest_bytes (run calls).files ≡ file
+  pub is_former : former_bytes (run calls).files ≡ former
+
+-- whatever files were kept beside the first server may be kept beside the second
+abbrev pub KeepsFiles : State → State → Type 0
+KeepsFiles old new =
+    (file former : List ℕ) → ∥ AtWork old file former ∥₁ → ∥ AtWork new file former ∥₁
+
+-- these bytes are the newest file beside the second server, and what was the newest is the former
+abbrev pub AddsFile : State → State → List ℕ → Type 0
+AddsFile old new bytes =
+    (file former : List ℕ) → ∥ AtWork old file former ∥₁ → ∥ AtWork new bytes file ∥₁
