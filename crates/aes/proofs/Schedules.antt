@@ -24,16 +24,6 @@ word_before w x n i long l =
 pub word_behind : (w x : List ℕ) (n : ℕ) → length w ≡ 4 * n → length x ≡ 4 → word (w ++ x) n ≡ x
 word_behind w x n long four = last_part w x (4 * n) 4 long four
 
--- where the word n is written, it stands, and the words before it stay
-pub word_written : (w x : List ℕ) (n : ℕ) → 4 * n + 4 ≤ length w → length x ≡ 4 → word (over w (4 * n) x) n ≡ x
-word_written w x n room four =
-    middle_part (take (4 * n) w) x (drop (length x) (drop (4 * n) w)) (4 * n) 4 (length-take-le (4 * n) w (omega arith)) four
-
-pub word_kept : (w x : List ℕ) (n i : ℕ) → 4 * n + 4 ≤ length w → i < n → word (over w (4 * n) x) i ≡ word w i
-word_kept w x n i room l =
-    word_before (take (4 * n) w) (x ++ drop (length x) (drop (4 * n) w)) n i (length-take-le (4 * n) w (omega arith)) l
-    ∙ part_front 4 (4 * i) (4 * n) w (omega arith)
-
 -- strings of the same words are the same
 same_front : (w v : List ℕ) (n : ℕ) → ((i : ℕ) → i < n → word w i ≡ word v i) → take (4 * n) w ≡ take (4 * n) v
 same_front w v zero h = refl

@@ -3,6 +3,7 @@ pub mod Positions
 pub mod Distinct
 pub mod Renewals
 pub mod Publishings
+pub mod Ranges
 pub mod Verdicts
 pub mod Sounds
 pub mod FilesSound

@@ -13,6 +13,7 @@ use Rattle.group.specs.Calls.{Publishing}
 use Rattle.group.specs.Notes.{is_serial, is_cradle, admit_free, admit_verdict}
 use Rattle.group.specs.Publishings.{due_verdict, lent_verdict, plan_verdict, file_verdict, publish_verdict, and_then}
 use Rattle.group.specs.Sound.{Cradled}
+use Rattle.group.proofs.Ranges.{in_range}
 
 module _ {A : Type 0} where
   -- a refusal is no answer
@@ -34,7 +35,7 @@ module _ {A : Type 0} where
   left_either P (Err r) new old f o = o
 
 cradled_is : (c : ℕ) → is_cradle c ≡ true → Cradled c
-cradled_is c e = let p = and_parts (leb 1 c) (leb c 128) e in (leb-true 1 c p.0, leb-true c 128 p.1)
+cradled_is c e = in_range 1 128 c e
 
 free_passed : (i y : Option ℕ) → admit_free i y ≡ Ok tt → (i ≡ None) × (y ≡ None)
 free_passed None None e = (refl, refl)

@@ -1,11 +1,15 @@
 -- The checks of admit and of remove, in their order.
-use Rattle.std.specs.Prelude.{ℕ, ◌+◌, Bool, not, cond, ◌&&◌, [], ◌∷◌, Some, None, Ok, Option, nat_le}
+use Rattle.std.specs.Prelude.{ℕ, ◌+◌, ◌≤◌, Bool, not, cond, ◌&&◌, [], ◌∷◌, Some, None, Ok, Option, nat_le}
 use Rattle.refusal.specs.Refusals.{Verdict, refused}
 use Rattle.cradles.specs.Cradles.{holder, departs}
 use Rattle.group.specs.declared.state.State.{State}
 use Rattle.group.specs.States.{cradle, seat_of, held_by}
 
--- serials are 1 to 9,999
+-- the number of a scanner, 1 to 9,999
+abbrev pub IsSerial : ℕ → Type 0
+IsSerial x = (1 ≤ x) × (x ≤ 9999)
+
+-- the same as a test
 abbrev pub is_serial : ℕ → Bool
 is_serial x = nat_le 1 x && nat_le x 9999
 

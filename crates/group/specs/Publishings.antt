@@ -38,7 +38,8 @@ due_verdict s =
     cond (not (noted s)) (refused 7 [])
     (cond (nat_le 1000000 s.epoch) (refused 8 []) (Ok tt))
 
--- the checks of what is lent, before the plan is written: 9, 10 with the bytes needed, 11 with the pairs needed
+-- the checks of what is lent, before the plan is written: 9, 10 with the bytes needed, 11 with the
+-- pairs needed
 abbrev pub lent_verdict : State → Publishing → Verdict (Unit {0})
 lent_verdict s p =
     cond (tight p.work) (refused 9 [])
@@ -68,7 +69,8 @@ file_verdict s p =
 abbrev pub publish_verdict : State → Publishing → Verdict Published
 publish_verdict s p = and_then (plan_verdict s p) (file_verdict s p)
 
--- the pair buffer afterwards: the plan at its front, also where the file has no room; or all as it was
+-- the pair buffer afterwards: the plan at its front, also where the file has no room; or all as it
+-- was
 abbrev pub publish_pairs : State → Publishing → List Pair
 publish_pairs s p =
     if_done (plan_verdict s p) (plan_of s p ++ drop (length (plan_of s p)) p.pairs) p.pairs

@@ -3,7 +3,8 @@ use Rattle.std.proofs.Common.{◌≡◌, ℕ, Bool, true, if◌then◌else◌, S
 use Rattle.std.proofs.lemmas.Bool.{cond_both}
 use Rattle.std.proofs.lemmas.Option.{cond_some, none-some}
 use Rattle.scanner.specs.Players.{Scanner, scanner}
-use Rattle.player.specs.Ranges.{IsSerial, InRange}
+use Rattle.group.specs.Notes.{IsSerial}
+use Rattle.player.specs.Ranges.{InRange}
 use Rattle.player.specs.Stored.{with_state, stored, is_in_range, is_serial_alone, numbers, restored, IsPossible}
 use Rattle.player.specs.Laws.{StoringLaws}
 use Rattle.player.specs.declared.any.Stored.{Stored}

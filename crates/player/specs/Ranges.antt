@@ -1,9 +1,6 @@
 -- The numbers that a player can have.
 use Rattle.std.specs.Prelude.{ℕ, ◌≤◌}
-
--- the serial of any player
-abbrev pub IsSerial : ℕ → Type 0
-IsSerial serial = (1 ≤ serial) × (serial ≤ 9999)
+use Rattle.group.specs.Notes.{IsSerial}
 
 -- the numbers of one that is waiting or seated: they are what a card may say
 pub record InRange (serial leaf epoch : ℕ) : Type 0 where

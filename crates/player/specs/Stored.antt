@@ -2,7 +2,8 @@
 use Rattle.std.specs.Prelude.{if◌then◌else◌, ℕ, ◌&&◌, Bool, Some, None, Option, ◌==◌}
 use Rattle.rekey.specs.Layout.{between}
 use Rattle.scanner.specs.Players.{Scanner, scanner, Player, waiting, seated, wiped}
-use Rattle.player.specs.Ranges.{IsSerial, InRange}
+use Rattle.group.specs.Notes.{IsSerial}
+use Rattle.player.specs.Ranges.{InRange}
 use Rattle.player.specs.declared.any.Stored.{Stored}
 use Rattle.player.specs.declared.any.AnyPlayer.{AnyPlayer}
 use Rattle.player.specs.declared.any.AnyPlayer.TheVariants as any

@@ -1,7 +1,8 @@
 //! The states of a player: plain numbers, moved from call to call. The ring is lent at each call.
 ghost use Rattle.std.specs.Prelude.{ℕ};
 ghost use Rattle.scanner.specs.Players.{Scanner, scanner};
-ghost use Rattle.player.specs.Ranges.{IsSerial, InRange};
+ghost use Rattle.group.specs.Notes.{IsSerial};
+ghost use Rattle.player.specs.Ranges.{InRange};
 
 use std::marker::Model;
 

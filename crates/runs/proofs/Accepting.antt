@@ -1,13 +1,13 @@
 -- What holds of a site holds after any call if each accepted call keeps it: refused calls and cards change nothing.
-use Rattle.std.proofs.Common.{◌≡◌, ℕ, ◌+◌, Bool, true, false, cond, not, ◌∷◌, ◌++◌, [], drop, Some, None, Ok, Option, is_err, leb, refl}
-use Rattle.std.proofs.lemmas.Bool.{and_parts, leb-true}
+use Rattle.std.proofs.Common.{◌≡◌, ℕ, ◌+◌, Bool, true, false, cond, not, ◌∷◌, ◌++◌, [], drop, Some, None, Ok, Option, is_err, refl, ap₂, ◌∙◌}
+use Rattle.group.proofs.Ranges.{in_range}
 use Rattle.refusal.specs.Refusals.{Verdict, refused, if_done}
 use Rattle.rekey.specs.Files.{written}
 use Rattle.cradles.specs.Cradles.{seated, holder, departs}
 use Rattle.group.specs.declared.state.Published.{Published}
 use Rattle.group.specs.States.{cradle, seat_of, held_by}
 use Rattle.group.specs.Calls.{Call, admit, remove, drop_notes, publish, card, Publishing, Given}
-use Rattle.group.specs.Notes.{is_serial, is_cradle, admit_free, remove_seated}
+use Rattle.group.specs.Notes.{is_serial, is_cradle, admit_free, admit_verdict, remove_seated}
 use Rattle.group.specs.Publishings.{file_of, size_of, plan_verdict}
 use Rattle.group.specs.Steps.{admitted, left_at, published, is_refused}
 use Rattle.group.specs.Sound.{Cradled, Sound}
@@ -33,7 +33,8 @@ publish_leaves w p v = record {
 
 -- each accepted call keeps it
 pub record Keeps (P : Site → Type 0) (w : Site) : Type 0 where
-  pub admits : (x c : ℕ) → is_serial x ≡ true → Cradled c → holder (cradle w.server c) ≡ None → P (admit_leaves w x c (Ok tt))
+  pub admits : (x c : ℕ) → admit_verdict w.server x c ≡ Ok tt → is_serial x ≡ true → Cradled c → holder (cradle w.server c) ≡ None →
+      P (admit_leaves w x c (Ok tt))
   pub removes : (x i : ℕ) → Cradled (i + 1) → seated (cradle w.server (i + 1)) ≡ Some x → P (remove_leaves w x (Some i) (Ok tt))
   pub drops : P (called w drop_notes)
   pub publishes : (p : Publishing) → Given (publish p) → plan_verdict w.server p ≡ Ok tt →
@@ -41,15 +42,20 @@ pub record Keeps (P : Site → Type 0) (w : Site) : Type 0 where
 
 module _ (P : Site → Type 0) (w : Site) (sound : Sound w.server) (keeps : Keeps P w) (old : P w) where
   after_admit : (x c : ℕ) → P (called w (admit x c))
-  after_admit x c = go (is_serial x) (is_cradle c) (held_by x w.server) (holder (cradle w.server c)) refl refl refl
+  after_admit x c = go (is_serial x) (is_cradle c) (held_by x w.server) (holder (cradle w.server c)) refl refl refl refl
     where
-      go : (a b : Bool) (h o : Option ℕ) → is_serial x ≡ a → is_cradle c ≡ b → holder (cradle w.server c) ≡ o →
-          P (admit_leaves w x c (cond (not a) (refused 1 []) (cond (not b) (refused 2 []) (admit_free h o))))
-      go false b h o i q e = old
-      go true false h o i q e = old
-      go true true (Some j) o i q e = old
-      go true true None (Some y) i q e = old
-      go true true None None i q e = let p = and_parts (leb 1 c) (leb c 128) q in keeps.admits x c i (leb-true 1 c p.0, leb-true c 128 p.1) e
+      tells : Bool → Bool → Option ℕ → Option ℕ → Verdict (Unit {0})
+      tells a b h o = cond (not a) (refused 1 []) (cond (not b) (refused 2 []) (admit_free h o))
+
+      go : (a b : Bool) (h o : Option ℕ) → is_serial x ≡ a → is_cradle c ≡ b → held_by x w.server ≡ h → holder (cradle w.server c) ≡ o →
+          P (admit_leaves w x c (tells a b h o))
+      go false b h o i q f e = old
+      go true false h o i q f e = old
+      go true true (Some j) o i q f e = old
+      go true true None (Some y) i q f e = old
+      go true true None None i q f e = keeps.admits x c
+          (ap₂ (λ a b. tells a b (held_by x w.server) (holder (cradle w.server c))) i q ∙ ap₂ (tells true true) f e)
+          i (in_range 1 128 c q) e
 
   after_remove : (x : ℕ) → P (called w (remove x))
   after_remove x = go (is_serial x) (seat_of x w.server) refl

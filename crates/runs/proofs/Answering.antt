@@ -10,26 +10,16 @@ use Rattle.cradles.specs.Cradles.{seated, awaited, holder, departs}
 use Rattle.cradles.proofs.Notes
 use Rattle.group.specs.declared.state.State.{State}
 use Rattle.group.specs.States.{cradle, seat_of, held_by}
-use Rattle.group.specs.Notes.{is_serial, is_cradle, admit_free, admit_verdict, remove_seated}
+use Rattle.group.specs.Notes.{IsSerial, is_serial, is_cradle, admit_free, admit_verdict, remove_seated}
 use Rattle.group.specs.Cards.{card_seated}
 use Rattle.group.specs.Sound.{Cradled, Sound}
+use Rattle.group.proofs.Ranges.{in_range, range_in, not_range}
 use Rattle.runs.specs.Book.{Book, IsSeated, IsSomewhere, IsArriving, IsDeparting, IsHolder, IsOut, IsFree}
 use Rattle.runs.specs.Runs.{Site}
-use Rattle.runs.specs.Answers.{IsSerial, SameCradles, AdmitAnswers, RemoveAnswers, CardAnswers}
+use Rattle.runs.specs.Answers.{SameCradles, AdmitAnswers, RemoveAnswers, CardAnswers}
 use Rattle.runs.proofs.Found.{found_at, found_nowhere, found_there}
 use Rattle.runs.proofs.Kept.{Kept}
 use Rattle.runs.proofs.Seated.{WrittenIn}
-
--- A test of a range says what its bounds say.
-
-in_range : (low high n : ℕ) → leb low n && leb n high ≡ true → (low ≤ n) × (n ≤ high)
-in_range low high n e = let p = and_parts (leb low n) (leb n high) e in (leb-true low n p.0, leb-true n high p.1)
-
-range_in : (low high n : ℕ) → (low ≤ n) × (n ≤ high) → leb low n && leb n high ≡ true
-range_in low high n r = and_from (leb low n) (leb n high) (le-leb low n r.0) (le-leb n high r.1)
-
-not_range : (low high n : ℕ) → ((low ≤ n) × (n ≤ high) → ⊥) → leb low n && leb n high ≡ false
-not_range low high n out = false_from_ne_true _ (λ e. out (in_range low high n e))
 
 -- two refusals with different numbers are different, and no refusal is an acceptance
 numbers_apart : {A : Type 0} (m n : ℕ) {ms ns : List ℕ} → (m ≡ n → ⊥) → refused {A = A} m ms ≡ refused n ns → ⊥
@@ -48,13 +38,13 @@ module _ (n : ℕ) (ns : List ℕ) where
   abbrev checks : Bool → Verdict (Unit {0})
   checks fails = cond fails (refused n ns) (Ok tt)
 
-  failed : (d : Bool) → checks d ≡ refused n ns → d ≡ true
-  failed true e = refl
-  failed false e = absurd (ok_apart n e)
+  trip_of : (d : Bool) → checks d ≡ refused n ns → d ≡ true
+  trip_of true e = refl
+  trip_of false e = absurd (ok_apart n e)
 
-  passed : (d : Bool) → checks d ≡ Ok tt → d ≡ false
-  passed true e = absurd (ok_apart n (sym e))
-  passed false e = refl
+  free_of : (d : Bool) → checks d ≡ Ok tt → d ≡ false
+  free_of true e = absurd (ok_apart n (sym e))
+  free_of false e = refl
 
   no_other : (m : ℕ) {ms : List ℕ} → (n ≡ m → ⊥) → (d : Bool) → checks d ≡ refused m ms → ⊥
   no_other m other true e = numbers_apart n m other e
@@ -180,36 +170,36 @@ module _ (w : Site) (sound : Sound w.server) (kept : Kept w) (written : WrittenI
         admit_verdict s x c ≡ admits a k h o
     is_admits a k h o p q e f = ap₂ (λ (m n : Bool). admits m n (held_by x s) (holder (cradle s c))) p q ∙ ap₂ (λ (m n : Option ℕ). admits a k m n) e f
 
-    first : Admits (refused 1 []) → IsSerial x → ⊥
-    first (no_serial n) = n
+    no_serial_of : Admits (refused 1 []) → IsSerial x → ⊥
+    no_serial_of (no_serial n) = n
 
-    second : Admits (refused 2 []) → IsSerial x × (Cradled c → ⊥)
-    second (no_cradle p n) = (p, n)
+    no_cradle_of : Admits (refused 2 []) → IsSerial x × (Cradled c → ⊥)
+    no_cradle_of (no_cradle p n) = (p, n)
 
-    third : (d : ℕ) → Admits (refused 3 (d ∷ [])) → IsSerial x × (Cradled c × IsHolder b x d)
-    third d (serial_held _ p k h) = (p, (k, h))
+    serial_held_of : (d : ℕ) → Admits (refused 3 (d ∷ [])) → IsSerial x × (Cradled c × IsHolder b x d)
+    serial_held_of d (serial_held _ p k h) = (p, (k, h))
 
-    fourth : (y : ℕ) → Admits (refused 4 (y ∷ [])) → IsSerial x × (Cradled c × (IsOut b x × IsHolder b y c))
-    fourth y (cradle_held _ p k n h) = (p, (k, (n, h)))
+    cradle_held_of : (y : ℕ) → Admits (refused 4 (y ∷ [])) → IsSerial x × (Cradled c × (IsOut b x × IsHolder b y c))
+    cradle_held_of y (cradle_held _ p k n h) = (p, (k, (n, h)))
 
-    done : Admits (Ok tt) → IsSerial x × (Cradled c × (IsOut b x × IsFree b c))
-    done (accepted p k n f) = (p, (k, (n, f)))
+    accepted_of : Admits (Ok tt) → IsSerial x × (Cradled c × (IsOut b x × IsFree b c))
+    accepted_of (accepted p k n f) = (p, (k, (n, f)))
 
     pub admit_answers : AdmitAnswers w x c
     admit_answers = record {
-      no_serial = (λ e. first (subst Admits e admitted), λ n. is_admits false _ _ _ (not_range 1 9999 x n) refl refl refl);
-      no_cradle = (λ e. second (subst Admits e admitted), λ r. is_admits true false _ _ (range_in 1 9999 x r.0) (not_range 1 128 c r.1) refl refl);
+      no_serial = (λ e. no_serial_of (subst Admits e admitted), λ n. is_admits false _ _ _ (not_range 1 9999 x n) refl refl refl);
+      no_cradle = (λ e. no_cradle_of (subst Admits e admitted), λ r. is_admits true false _ _ (range_in 1 9999 x r.0) (not_range 1 128 c r.1) refl refl);
       serial_held = λ d. (
-        λ e. third d (subst Admits e admitted),
+        λ e. serial_held_of d (subst Admits e admitted),
         λ r. is_admits true true (Some (d - 1)) _ (range_in 1 9999 x r.0) (range_in 1 128 c r.1.0) (held_there x d r.1.1) refl
             ∙ ap (λ n. refused 3 (n ∷ [])) (let k = (holds_there x d r.1.1).0 in omega (arith, k.0)),
       );
       cradle_held = λ y. (
-        λ e. fourth y (subst Admits e admitted),
+        λ e. cradle_held_of y (subst Admits e admitted),
         λ r. is_admits true true None (Some y) (range_in 1 9999 x r.0) (range_in 1 128 c r.1.0) (out_none x r.1.1.0) (holds_there y c r.1.1.1).1,
       );
       accepted = (
-        λ e. done (subst Admits e admitted),
+        λ e. accepted_of (subst Admits e admitted),
         λ r. is_admits true true None None (range_in 1 9999 x r.0) (range_in 1 128 c r.1.0) (out_none x r.1.1.0) (free_none c r.1.0 r.1.1.1),
       );
     }
@@ -284,14 +274,14 @@ module _ (w : Site) (sound : Sound w.server) (kept : Kept w) (written : WrittenI
       not_seated = not_seated_is (remove_seated s) refl not_one not_five;
       departing = (
         λ e. let r = at_some (remove_seated s) refl not_one not_five (refused 6 []) (numbers_apart 6 1 (omega arith)) (numbers_apart 6 5 (omega arith)) e in
-            of_list x (departs_there x (r.0 + 1) r.1.0 ∙ failed 6 [] (departs (cradle s (r.0 + 1))) r.1.1),
+            of_list x (departs_there x (r.0 + 1) r.1.0 ∙ trip_of 6 [] (departs (cradle s (r.0 + 1))) r.1.1),
         λ d. let t = written.departing x d in
             at_seat (remove_seated s) t.0 t.1 ∙ ap (checks 6 []) (here t.0 t.1 ∙ sym (departs_there x t.0 t.1) ∙ listed x d),
       );
       accepted = (
         λ e. let r = at_some (remove_seated s) refl not_one not_five (Ok tt) (ok_apart 1) (ok_apart 5) e in (
           (r.0 + 1, r.1.0),
-          λ d. true≢false (sym (listed x d) ∙ departs_there x (r.0 + 1) r.1.0 ∙ passed 6 [] (departs (cradle s (r.0 + 1))) r.1.1),
+          λ d. true≢false (sym (listed x d) ∙ departs_there x (r.0 + 1) r.1.0 ∙ free_of 6 [] (departs (cradle s (r.0 + 1))) r.1.1),
         ),
         λ r. at_seat (remove_seated s) r.0.0 r.0.1
             ∙ ap (checks 6 []) (here r.0.0 r.0.1 ∙ sym (departs_there x r.0.0 r.0.1) ∙ false_from_ne_true _ (λ e. r.1 (of_list x e))),
@@ -316,12 +306,12 @@ module _ (w : Site) (sound : Sound w.server) (kept : Kept w) (written : WrittenI
       no_room = (
         λ e. let r = at_some (card_seated buffer) refl not_one not_five (refused 12 (39 ∷ []))
             (numbers_apart 12 1 (omega arith)) (numbers_apart 12 5 (omega arith)) e in
-            ((r.0 + 1, r.1.0), ltb-true (length buffer) 39 (failed 12 (39 ∷ []) (ltb (length buffer) 39) r.1.1)),
+            ((r.0 + 1, r.1.0), ltb-true (length buffer) 39 (trip_of 12 (39 ∷ []) (ltb (length buffer) 39) r.1.1)),
         λ r. at_seat (card_seated buffer) r.0.0 r.0.1 ∙ ap (checks 12 (39 ∷ [])) (lt-ltb (length buffer) 39 r.1),
       );
       accepted = (
         λ e. let r = at_some (card_seated buffer) refl not_one not_five (Ok tt) (ok_apart 1) (ok_apart 5) e in
-            ((r.0 + 1, r.1.0), ltb-false (length buffer) 39 (passed 12 (39 ∷ []) (ltb (length buffer) 39) r.1.1)),
+            ((r.0 + 1, r.1.0), ltb-false (length buffer) 39 (free_of 12 (39 ∷ []) (ltb (length buffer) 39) r.1.1)),
         λ r. at_seat (card_seated buffer) r.0.0 r.0.1 ∙ ap (checks 12 (39 ∷ [])) (le-ltb (length buffer) 39 r.1),
       );
     }

@@ -1,17 +1,19 @@
 -- What admit checks of a serial and a cradle holds of all stays, and of all noted arrivals.
 use Rattle.std.proofs.Common.{◌≡◌, ℕ, Bool, true, false, List, [], ◌∷◌, map, filter, Ok, Err, is_err, refl, sym, ap, ◌∙◌, inl, inr}
-use Rattle.refusal.specs.Refusals.{Verdict}
 use Rattle.tree.specs.Plans.{In}
 use Rattle.tree.proofs.Members.{in_append, in_map, in_kept}
 use Rattle.group.specs.Calls.{Call, admit, remove, drop_notes, publish, card}
 use Rattle.group.specs.Notes.{admit_verdict}
 use Rattle.group.specs.Steps.{is_refused}
 use Rattle.runs.specs.Book.{Book, Seat, Arrival, Stay, departing, stay_to, next_epoch, told}
-use Rattle.runs.specs.Runs.{run}
-use Rattle.runs.specs.Law.{AllHave, Checked}
+use Rattle.runs.specs.Runs.{Site, run, AllGiven}
+use Rattle.runs.specs.Law.{AllHave, AdmitChecks}
+use Rattle.group.proofs.EveryCall.{state_laws}
 use Rattle.runs.proofs.Agreement.{seat_next}
+use Rattle.runs.proofs.Accepting.{Keeps, after_call}
+use Rattle.runs.proofs.Kept.{run_sound}
 
-module _ (property : ℕ → ℕ → Bool) (checked : Checked property) where
+module _ (property : ℕ → ℕ → Bool) (checked : AdmitChecks property) where
   -- it holds of all seats, arrivals and ended stays
   record HaveAll (b : Book) : Type 0 where
     seats : (t : Seat) → In t b.seats → property t.serial t.cradle ≡ true
@@ -28,30 +30,25 @@ module _ (property : ℕ → ℕ → Bool) (checked : Checked property) where
     ];
   }
 
-  have_told : (b : Book) (c : Call) (r : Bool) → ((x d : ℕ) → c ≡ admit x d → r ≡ false → property x d ≡ true) → HaveAll b → HaveAll (told b c r)
-  have_told b c true new old = old
-  have_told b (admit x d) false new old = record {
-    seats = old.seats;
-    arrivals = λ a i. elim i [ inl q ↦ rw q (new x d refl refl) | inr j ↦ old.arrivals a j ];
-    ended = old.ended;
+  keeps : (w : Site) → HaveAll w.book → Keeps (λ v. HaveAll v.book) w
+  keeps w old = record {
+    admits = λ x c ok i k e. record {
+      seats = old.seats;
+      arrivals = λ a h. elim h [ inl q ↦ rw q (checked w.server x c ok) | inr j ↦ old.arrivals a j ];
+      ended = old.ended;
+    };
+    removes = λ x i k is. record { seats = old.seats; arrivals = old.arrivals; ended = old.ended };
+    drops = record { seats = old.seats; arrivals = λ a i. absurd i; ended = old.ended };
+    publishes = λ p given ok. have_next w.book old;
   }
-  have_told b (remove x) false new old = record { seats = old.seats; arrivals = old.arrivals; ended = old.ended }
-  have_told b drop_notes false new old = record { seats = old.seats; arrivals = λ a i. absurd i; ended = old.ended }
-  have_told b (publish p) false new old = have_next b old
-  have_told b (card x buffer) false new old = old
 
-  have_run : (calls : List Call) → HaveAll (run calls).book
-  have_run [] = record { seats = λ t i. absurd i; arrivals = λ a i. absurd i; ended = λ s i. absurd i }
-  have_run (c ∷ earlier) = have_told (run earlier).book c (is_refused (run earlier).server c)
-      (λ x d is ok. checked (run earlier).server x d (accepts (admit_verdict (run earlier).server x d) (ap (is_refused (run earlier).server) (sym is) ∙ ok)))
-      (have_run earlier)
-    where
-      accepts : (v : Verdict (Unit {0})) → is_err v ≡ false → v ≡ Ok tt
-      accepts (Ok u) e = refl
-      accepts (Err f) e = cc
+  have_run : (calls : List Call) → AllGiven calls → HaveAll (run calls).book
+  have_run [] given = record { seats = λ t i. absurd i; arrivals = λ a i. absurd i; ended = λ s i. absurd i }
+  have_run (c ∷ earlier) given = after_call (λ v. HaveAll v.book) (run earlier) (run_sound state_laws earlier given.1)
+      (keeps (run earlier) (have_run earlier given.1)) (have_run earlier given.1) c given.0
 
-  pub all_have : (calls : List Call) → AllHave (run calls).book property
-  all_have calls = let h = have_run calls in
+  pub all_have : (calls : List Call) → AllGiven calls → AllHave (run calls).book property
+  all_have calls given = let h = have_run calls given in
       record {
         stays = λ s i. elim i [ inl j ↦ h.seats s.seat j.0 | inr j ↦ h.ended s j ];
         arrivals = h.arrivals;

@@ -1,5 +1,5 @@
 -- After any calls, group keys are reached exactly by members.
-use Rattle.std.proofs.Common.{ℕ, ◌≤◌, ◌↔◌, List, refl, sym, ap, subst, inl, inr, arith, length, ◌≡◌, Ok, ◌++◌, drop, ◌∙◌, [], ◌∷◌, Bool, true, replicate, lit≤, take, take_at}
+use Rattle.std.proofs.Common.{ℕ, ◌<◌, ◌≤◌, ◌↔◌, List, refl, sym, ap, subst, inl, inr, arith, length, ◌≡◌, Ok, ◌++◌, drop, ◌∙◌, [], ◌∷◌, Bool, true, replicate, lit≤, take, take_at}
 use Rattle.tree.specs.Plans.{In}
 use Rattle.keys.specs.declared.KeyName.{KeyName}
 use Rattle.keys.specs.Names.{named, held}
@@ -38,13 +38,15 @@ module _ (w : Site) (kept : Kept w) (serials : List ℕ) where
     stay = k.stay;
     is_stay = k.is_stay;
     is_theirs = k.is_theirs;
+    is_node = subst (λ (m : KeyName). 0 < m.node) k.is_name (omega arith);
     beneath = (0, ap (λ (m : KeyName). m.node) k.is_name);
     covers = subst (λ (m : KeyName). Covers k.stay m.epoch) k.is_name (omega arith, lasts k.stay k.is_stay);
   }
   holds (opened {m} {n} l r) =
       let h = holds r in
-      let s = (kept.steady.links_right m n l).right h.stay h.is_stay h.beneath h.covers in
-      record { stay = h.stay; is_stay = h.is_stay; is_theirs = h.is_theirs; beneath = s.0; covers = s.1 }
+      let link = kept.steady.links_right m n l in
+      let s = link.right h.stay h.is_stay h.beneath h.covers in
+      record { stay = h.stay; is_stay = h.is_stay; is_theirs = h.is_theirs; is_node = link.content_node; beneath = s.0; covers = s.1 }
 
   by_stays : (name : KeyName) → Reached (LeafKeyOf w.book serials) w.files name → StayUnder w.book serials name
   by_stays name r = holds (followed (LeafKeyOf w.book serials) w.files name r)
@@ -148,7 +150,7 @@ module _ (calls : List Call) (sound : Sound (run calls).server) (kept : Kept (ru
     card_answers = card_answers w sound kept written;
     cards = cards;
     cards_given = cards_given;
-    all_checked = λ property checked. all_have property checked calls;
+    all_checked = λ property checked. all_have property checked calls given_all;
     sound = sound;
   }
 

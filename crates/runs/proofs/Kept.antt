@@ -12,7 +12,7 @@ use Rattle.cradles.specs.Cradles.{code_of, seated, holder, with_arrival, with_de
 use Rattle.group.specs.declared.state.State.{State}
 use Rattle.group.specs.States.{cradle, row, noted}
 use Rattle.group.specs.Calls.{Call, drop_notes, publish, Publishing, Given}
-use Rattle.group.specs.Notes.{is_serial}
+use Rattle.group.specs.Notes.{admit_verdict, is_serial}
 use Rattle.group.specs.Publishings.{plan_of, plan_verdict}
 use Rattle.group.specs.Steps.{with_cradle, admitted, left_at, published}
 use Rattle.group.specs.Sound.{Cradled, Sound}
@@ -72,8 +72,8 @@ module _ (w : Site) (sound : Sound w.server) (old : Kept w) where
     all_readable = old.all_readable;
   }
 
-  admit_keeps : (x c : ℕ) → is_serial x ≡ true → Cradled c → holder (cradle w.server c) ≡ None → Kept (admit_leaves w x c (Ok tt))
-  admit_keeps x c i k e =
+  admit_keeps : (x c : ℕ) → admit_verdict w.server x c ≡ Ok tt → is_serial x ≡ true → Cradled c → holder (cradle w.server c) ≡ None → Kept (admit_leaves w x c (Ok tt))
+  admit_keeps x c ok i k e =
       kept_with (set w.server.cradles (c - 1) (with_arrival (cradle w.server c) x))
       (record { serial = x; cradle = c } ∷ w.book.arrivals) w.book.departures
       (λ a h. elim h [ inl same ↦ ap (λ y. is_serial y.serial) same ∙ i | inr more ↦ old.serials.of_arrivals a more ])

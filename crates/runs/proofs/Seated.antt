@@ -144,7 +144,7 @@ WrittenIn w = Written (cradle w.server) w.book
 
 written_next : (w : Site) → Sound w.server → Kept w → WrittenIn w → (c : Call) → Given c → WrittenIn (called w c)
 written_next w sound kept old = after_call WrittenIn w sound (record {
-  admits = λ x c i k e. admit_writes (cradle w.server) _ w.book old x c (one_other w.server c (with_arrival (cradle w.server c) x) sound.cradle_count k);
+  admits = λ x c ok i k e. admit_writes (cradle w.server) _ w.book old x c (one_other w.server c (with_arrival (cradle w.server c) x) sound.cradle_count k);
   removes = λ x i k is. remove_writes (cradle w.server) _ w.book old x (i + 1) k is
       (one_other w.server (i + 1) (with_departure (cradle w.server (i + 1))) sound.cradle_count k);
   drops = drop_writes (cradle w.server) _ w.book old (λ d h. get_or-map without_notes w.server.cradles (d - 1) Empty);

@@ -35,6 +35,7 @@ pub record SteadyStay (epoch : ℕ) (s : Stay) : Type 0 where
 
 -- whoever may hold the opener's key may hold the content's
 pub record RightLink (epoch : ℕ) (seats : List Seat) (ended : List Stay) (opener content : KeyName) : Type 0 where
+  pub content_node : 0 < content.node
   pub opener_past : opener.epoch ≤ epoch
   pub content_past : content.epoch ≤ epoch
   pub right : (s : Stay) → StayOf epoch seats ended s → Within (leaf_at s.seat) opener.node → Covers s opener.epoch →

@@ -111,7 +111,7 @@ module _ (epoch : ℕ) (row : List Code) (plan : List Pair) (material : List ℕ
 
   -- what a link gave before, it still gives
   right_still : (m n : KeyName) → RightLink epoch seats ended m n → RightLink (epoch + 1) seats′ ended′ m n
-  right_still m n r = record { opener_past = omega (arith, r.opener_past); content_past = omega (arith, r.content_past); right = still }
+  right_still m n r = record { content_node = r.content_node; opener_past = omega (arith, r.opener_past); content_past = omega (arith, r.content_past); right = still }
     where
       still : (s : Stay) → After s → Within (leaf_at s.seat) m.node → Covers s m.epoch → Within (leaf_at s.seat) n.node × Covers s n.epoch
       still s (inl i) w c = elim (new.seats_are s.seat i.0) [
@@ -138,6 +138,7 @@ module _ (epoch : ℕ) (row : List Code) (plan : List Pair) (material : List ℕ
 
   planned_right : (o : Opener) (n : ℕ) → In (pair o n) plan → RightLink (epoch + 1) seats′ ended′ (opener_name former present o) (named n (epoch + 1))
   planned_right (Present o) n i = record {
+    content_node = inner;
     opener_past = past o;
     content_past = omega arith;
     right = right;
@@ -154,6 +155,7 @@ module _ (epoch : ℕ) (row : List Code) (plan : List Pair) (material : List ℕ
           let last = holders_last o (omega (arith, inner, beneath_greater o n inner beneath)) s a w c in
           (within_trans (leaf_at s.seat) o n w (beneath_within o n beneath), (omega (arith, c.0, past o), omega (arith, last)))
   planned_right (Former o) n i = record {
+    content_node = (changed_inner row n (new.lawful.contents (pair (Former o) n) i)).0;
     opener_past = omega (arith, old.made_past o);
     content_past = omega arith;
     right = λ s a w c. right s a (subst (λ (m : ℕ). Within (leaf_at s.seat) m) may.0 w) (subst (λ (m : ℕ). Covers s (former m).made) may.0 c);

@@ -4,15 +4,11 @@ use Rattle.std.specs.Prelude.{◌≡◌, ℕ, ◌<◌, ◌≤◌, ◌↔◌, tru
 use Rattle.refusal.specs.Refusals.{refused}
 use Rattle.cradles.specs.Cradles.{seated, awaited, departs}
 use Rattle.group.specs.States.{cradle}
-use Rattle.group.specs.Notes.{admit_verdict, remove_verdict}
+use Rattle.group.specs.Notes.{IsSerial, admit_verdict, remove_verdict}
 use Rattle.group.specs.Cards.{card_verdict}
 use Rattle.group.specs.Sound.{Cradled}
 use Rattle.runs.specs.Book.{IsSeated, IsSomewhere, IsArriving, IsDeparting, IsHolder, IsOut, IsFree}
 use Rattle.runs.specs.Runs.{Site}
-
--- the number of a scanner
-abbrev pub IsSerial : ℕ → Type 0
-IsSerial x = (1 ≤ x) × (x ≤ 9999)
 
 -- who sits in a cradle of the server, or is noted to arrive or to depart there, stands so in the
 -- book, and the other way round

@@ -1,6 +1,6 @@
 -- A group key belongs to its members, whatever was called: it is reached by nobody else, and each
 -- of their players holds it. Calls and files are listed the newest first.
-use Rattle.std.specs.Prelude.{◌≡◌, ℕ, ◌≤◌, ◌↔◌, Bool, true, List, ◌∷◌, ◌++◌, length, map, drop, Some, None, Ok}
+use Rattle.std.specs.Prelude.{◌≡◌, ℕ, ◌<◌, ◌≤◌, ◌↔◌, Bool, true, List, ◌∷◌, ◌++◌, length, map, drop, Some, None, Ok}
 use Rattle.byte_strings.specs.Strings.{Bytes}
 use Rattle.tree.specs.Tree.{Within, falling}
 use Rattle.tree.specs.Plans.{In}
@@ -48,6 +48,7 @@ pub record StayUnder (b : Book) (serials : List ℕ) (name : KeyName) : Type 0 w
   pub stay : Stay
   pub is_stay : IsStay b stay
   pub is_theirs : In stay.seat.serial serials
+  pub is_node : 0 < name.node
   pub beneath : Within (leaf_of stay.seat.cradle) name.node
   pub covers : Covers stay name.epoch
 
@@ -86,8 +87,9 @@ pub record AllHave (b : Book) (property : ℕ → ℕ → Bool) : Type 0 where
   pub arrivals : (a : Arrival) → In a b.arrivals → property a.serial a.cradle ≡ true
 
 -- admit checks that property: it accepts no serial and cradle without it, at any server
-abbrev pub Checked : (ℕ → ℕ → Bool) → Type 0
-Checked property = (s : State) (x c : ℕ) → admit_verdict s x c ≡ Ok tt → property x c ≡ true
+abbrev pub AdmitChecks : (ℕ → ℕ → Bool) → Type 0
+AdmitChecks property =
+    (s : State) (x c : ℕ) → admit_verdict s x c ≡ Ok tt → property x c ≡ true
 
 -- what holds after these calls
 pub record GroupKeys (calls : List Call) : Type 0 where
@@ -137,7 +139,8 @@ pub record GroupKeys (calls : List Call) : Type 0 where
       (buffer : List ℕ) → 39 ≤ length buffer → CardGiven (card t.serial buffer ∷ calls) t
       (card_of t (held (run calls).server.nodes (leaf_of t.cradle)).key)
   -- what admit checks of a serial and a cradle holds of all stays, and of all noted arrivals
-  pub all_checked : (property : ℕ → ℕ → Bool) → Checked property → AllHave (run calls).book property
+  pub all_checked : (property : ℕ → ℕ → Bool) → AdmitChecks property →
+      AllHave (run calls).book property
   -- what every server keeps
   pub sound : Sound (run calls).server
 
@@ -146,7 +149,8 @@ pub record GroupKeys (calls : List Call) : Type 0 where
 abbrev pub EveryRun : Type 0
 EveryRun = (calls : List Call) → AllGiven calls → GroupKeys calls
 
--- the law of one server: calls with lawful strategies and wraps that make it what it is, and all that holds after them
+-- the law of one server: calls with lawful strategies and wraps that make it what it is, and all
+-- that holds after them
 pub record LawOf (s : State) : Type 0 where
   pub calls : List Call
   pub given : AllGiven calls

@@ -1,5 +1,6 @@
 -- The way up goes by the rule: level by level, to the root or to the node where it stops.
 use Rattle.std.proofs.Common.{◌≡◌, ℕ, zero, suc, ◌+◌, ◌<◌, ◌≤◌, ◌⊎◌, ◌↔◌, List, [], ◌∷◌, ◌++◌, length, take, drop, get_or, set, Some, None, Option, Ok, Err, refl, sym, ap, ◌∙◌, ap₂, subst, inl, inr, arith}
+use Rattle.std.proofs.lemmas.Option.{none-some, same_Some}
 use Rattle.std.specs.List.{range_with_len}
 use Rattle.std.proofs.lemmas.Bool.{cases_Bool, cases_eq, cases_lt, both_ways, cond-true, cond-false}
 use Rattle.std.proofs.lemmas.List.{length-set, get_or-set_same, get_or-set_other, get_or-drop, take-set-le, drop-set-lt, drop-drop, take-append-drop, take_all}
@@ -18,12 +19,6 @@ use Rattle.scanner.specs.declared.found.Found.{Found}
 use Rattle.scanner.specs.Searches.{found_from}
 use Rattle.scanner.specs.Climbs.{opening, wrap_of, taken, opened_by, risen, then, climbed, followed}
 use Rattle.scanner.specs.Ways.{ring_so_far, IsRenewed, WayUp, ShutOut, DoesNotOpen, Stops}
-
-some_same : {A : Type 0} {x y : A} → ◌≡◌ {A = Option A} (Some x) (Some y) → x ≡ y
-some_same e = cc
-
-none_some : {A : Type 0} {x : A} → ◌≡◌ {A = Option A} None (Some x) → ⊥
-none_some e = let z : ◌≡◌ {A = ℕ} 0 1 = cc in absurd (omega arith)
 
 module _ (w : KeyWrap) (f : Rekey) (leaf : ℕ) (old : List NodeKey) (eight : length old ≡ 8) where
   -- what a verdict says of the way up as far as the node k halvings up
@@ -145,8 +140,8 @@ module _ (w : KeyWrap) (f : Rekey) (leaf : ℕ) (old : List NodeKey) (eight : le
 
   one_entry : (k : ℕ) (ring : List NodeKey) (x y : NodeKey) → IsRenewed w f leaf k ring x → IsRenewed w f leaf k ring y → x ≡ y
   one_entry k ring x y a b =
-      let it : a.it ≡ b.it = some_same (sym a.is_first ∙ b.is_first) in
-      let key : x.key ≡ y.key = some_same (sym a.content ∙ ap (opens ring) it ∙ b.content) in
+      let it : a.it ≡ b.it = same_Some _ _ (sym a.is_first ∙ b.is_first) in
+      let key : x.key ≡ y.key = same_Some _ _ (sym a.content ∙ ap (opens ring) it ∙ b.content) in
       let made : x.made ≡ y.made = a.made ∙ sym b.made in
       λ i. record { made = made i; key = key i }
 
@@ -183,17 +178,17 @@ module _ (w : KeyWrap) (f : Rekey) (leaf : ℕ) (old : List NodeKey) (eight : le
 
   -- where a node's entry is renewed, the way up does not stop
   goes_on : (k : ℕ) (ring : List NodeKey) (entry : NodeKey) (r : Refusal) → IsRenewed w f leaf k ring entry → Why (halved k leaf) ring r → ⊥
-  goes_on k ring entry r a (inl s) = none_some (sym s.0 ∙ a.is_first)
+  goes_on k ring entry r a (inl s) = none-some _ (sym s.0 ∙ a.is_first)
   goes_on k ring entry r a (inr d) =
-      let it : a.it ≡ d.it = some_same (sym a.is_first ∙ d.is_first) in
-      none_some (sym d.unopened ∙ sym (ap (opens ring) it) ∙ a.content)
+      let it : a.it ≡ d.it = same_Some _ _ (sym a.is_first ∙ d.is_first) in
+      none-some _ (sym d.unopened ∙ sym (ap (opens ring) it) ∙ a.content)
 
   one_why : (n : ℕ) (ring : List NodeKey) (r q : Refusal) → Why n ring r → Why n ring q → r ≡ q
   one_why n ring r q (inl a) (inl b) = a.1 ∙ sym b.1
-  one_why n ring r q (inl a) (inr b) = absurd (none_some (sym a.0 ∙ b.is_first))
-  one_why n ring r q (inr a) (inl b) = absurd (none_some (sym b.0 ∙ a.is_first))
+  one_why n ring r q (inl a) (inr b) = absurd (none-some _ (sym a.0 ∙ b.is_first))
+  one_why n ring r q (inr a) (inl b) = absurd (none-some _ (sym b.0 ∙ a.is_first))
   one_why n ring r q (inr a) (inr b) =
-      let it : a.it ≡ b.it = some_same (sym a.is_first ∙ b.is_first) in
+      let it : a.it ≡ b.it = same_Some _ _ (sym a.is_first ∙ b.is_first) in
       a.told ∙ ap (λ (i : Found). no 18 (i.wrap ∷ f.epoch ∷ [])) it ∙ sym b.told
 
   -- a way up that goes further than a stop
