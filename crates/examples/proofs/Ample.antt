@@ -77,7 +77,7 @@ module _ (s : State) (sound : Sound s) (some : noted s ≡ true) (early : s.epoc
   few_pairs : length (plan_of s p) ≤ 896
   few_pairs = (a.given.0 (row s) (length-map s.cradles _ ∙ sound.cradle_count)).few
 
-  few_bytes : size_of s p ≤ 62857
+  pub few_bytes : size_of s p ≤ 62857
   few_bytes =
       let wide : 6 + p.wrap.length ≤ 70 = omega (arith, a.given.1.0.length_range.1) in
       omega (arith, few_changes (row s), mul-le (length (plan_of s p)) (6 + p.wrap.length) 896 70 few_pairs wide)

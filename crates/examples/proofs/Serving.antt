@@ -1,7 +1,7 @@
 -- The worked examples of a server, each computed.
-use Rattle.std.proofs.Common.{◌≡◌, ℕ, ◌≤◌, ◌<◌, true, false, List, [], ◌∷◌, length, refl, sym, ap, ap₂, ◌∙◌, lit<, arith}
+use Rattle.std.proofs.Common.{◌≡◌, ℕ, ◌≤◌, ◌<◌, true, false, not, ◌&&◌, List, [], ◌∷◌, length, refl, sym, ap, ap₂, ◌∙◌, lit<, arith}
 use Rattle.std.specs.Prelude.{Ok, nat_lt}
-use Rattle.std.proofs.lemmas.Bool.{le-ltb, lt-ltb}
+use Rattle.std.proofs.lemmas.Bool.{le-ltb, lt-ltb, and_from, not-false}
 use Rattle.refusal.specs.Refusals.{Verdict, refused}
 use Rattle.wrap.specs.Calls.{tight}
 use Rattle.tree.specs.declared.types.Code.{Code}
@@ -14,11 +14,16 @@ use Rattle.group.specs.declared.state.Published.{Published}
 use Rattle.group.specs.States.{row}
 use Rattle.group.specs.Draws.{arrival_leaves, drawn}
 use Rattle.group.specs.Calls.{Publishing, Strategy}
-use Rattle.group.specs.Notes.{remove_verdict}
+use Rattle.group.specs.Notes.{is_serial, is_cradle, remove_verdict}
 use Rattle.group.specs.Publishings.{plan_of, size_of, and_then, lent_verdict, file_verdict, publish_verdict}
 use Rattle.examples.specs.Examples.{server, first_change, byte_count}
 use Rattle.examples.specs.Servers.{EnoughForOne, ServerExamples}
-use Rattle.examples.proofs.Ample.{plan_passes, publish_passes}
+use Rattle.group.proofs.Verdicts.{passed}
+use Rattle.group.specs.Sound.{Sound}
+use Rattle.runs.specs.Law.{AdmitChecks}
+use Rattle.runs.proofs.EveryRun.{every_run}
+use Rattle.examples.specs.Ample.{AmpleBy}
+use Rattle.examples.proofs.Ample.{few_bytes, ample_plans, plan_passes, publish_passes}
 use Rattle.examples.proofs.Changes.{first, file_length, last_server, last_row}
 use Rattle.examples.proofs.Worked.{one_row}
 
@@ -61,6 +66,29 @@ first_epoch p it =
     ∙ ap₂ (λ (w b : ℕ). Ok (record { epoch = 1; wraps = w; bytes = b; drawn = drawn (row s) })) wraps (sym size)
     ∙ ap (λ (d : ℕ). Ok (record { epoch = 1; wraps = 7; bytes = byte_count p first_change; drawn = d })) one_arrival
 
+admit_checks : AdmitChecks (λ x c. is_serial x && is_cradle c)
+admit_checks s x c ok =
+    let a = passed (not (is_serial x)) _ _ _ ok in
+    let b = passed (not (is_cradle c)) _ _ _ a.1 in
+    and_from (is_serial x) (is_cradle c) (not-false (is_serial x) a.0) (not-false (is_cradle c) b.0)
+
+ample_enough : (p : Publishing) (L : ℕ) → AmpleBy key_oriented L p → EnoughForOne p
+ample_enough p L a =
+    let it = a.ample in
+    let passes = ample_plans s new_sound_one refl (lit< tt) p it in
+    let size : byte_count p first_change ≡ size_of s p = file_length first_change (tt, tt) refl (lit< tt) p it.given passes in
+    record {
+      given = it.given;
+      strategy = a.strategy;
+      work = it.work;
+      material = omega (arith, it.material);
+      pairs = omega (arith, it.pairs);
+      file = omega (arith, size, few_bytes s new_sound_one refl (lit< tt) p it, it.file);
+    }
+  where
+    new_sound_one : Sound s
+    new_sound_one = (every_run first_change (tt, tt)).sound
+
 departure_drawn : drawn (first (Departs ∷ [])) ≡ 224
 unfolding first arrival_leaves within nodes leaves inners stands changed changed_nodes
 departure_drawn = refl
@@ -70,12 +98,14 @@ server_examples = record {
   last_cradle = refl;
   no_cradle = refl;
   no_serial = refl;
+  admit_checks = admit_checks;
   serial_held = refl;
   cradle_held = refl;
   not_seated = refl;
   nothing_noted = λ p. refl;
   one_arrival = one_arrival;
   a_byte_short = a_byte_short;
+  ample_enough = ample_enough;
   first_epoch = first_epoch;
   departing = λ p a. ap (λ s. remove_verdict s 1001) (last_server p a);
   last_drawn = λ p a. ap drawn (last_row p a) ∙ departure_drawn;

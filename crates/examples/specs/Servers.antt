@@ -1,13 +1,14 @@
 -- Worked examples of a server: its first arrival, and the departure of its last member.
-use Rattle.std.specs.Prelude.{◌≡◌, ◌≤◌, [], ◌∷◌, length, Ok}
+use Rattle.std.specs.Prelude.{◌≡◌, ℕ, ◌≤◌, ◌&&◌, [], ◌∷◌, length, Ok}
 use Rattle.refusal.specs.Refusals.{refused}
 use Rattle.rules.specs.Rules.{key_oriented, plan}
 use Rattle.group.specs.States.{new_state, row}
 use Rattle.group.specs.Draws.{drawn}
 use Rattle.group.specs.Calls.{Publishing, publish, Given}
-use Rattle.group.specs.Notes.{admit_verdict, remove_verdict}
+use Rattle.group.specs.Notes.{is_serial, is_cradle, admit_verdict, remove_verdict}
 use Rattle.group.specs.Publishings.{publish_verdict}
-use Rattle.examples.specs.Ample.{Ample}
+use Rattle.runs.specs.Law.{AdmitChecks}
+use Rattle.examples.specs.Ample.{Ample, AmpleBy}
 use Rattle.examples.specs.Examples.{server, first_change, last_change, byte_count}
 
 -- a publishing with the key-oriented strategy is lent just enough for the first arrival
@@ -25,6 +26,8 @@ pub record ServerExamples : Type 0 where
   pub last_cradle : admit_verdict new_state 9999 128 ≡ Ok tt
   pub no_cradle : admit_verdict new_state 9999 129 ≡ refused 2 []
   pub no_serial : admit_verdict new_state 10000 129 ≡ refused 1 []
+  -- admit checks that the serial and the cradle are such numbers
+  pub admit_checks : AdmitChecks (λ x c. is_serial x && is_cradle c)
   -- the scanner holds cradle 1, though it is not in it yet
   pub serial_held : admit_verdict (server first_change) 1001 2 ≡ refused 3 (1 ∷ [])
   pub cradle_held : admit_verdict (server first_change) 1002 1 ≡ refused 4 (1001 ∷ [])
@@ -34,6 +37,8 @@ pub record ServerExamples : Type 0 where
   pub one_arrival : drawn (row (server first_change)) ≡ 256
   pub a_byte_short : (p : Publishing) → 512 ≤ length p.work → length p.material ≡ 255 →
       publish_verdict (server first_change) p ≡ refused 10 (256 ∷ [])
+  -- what is enough for any change is enough for that
+  pub ample_enough : (p : Publishing) (L : ℕ) → AmpleBy key_oriented L p → EnoughForOne p
   -- with enough it is told as epoch 1, with 7 wraps, the bytes of its file, and 256 drawn
   pub first_epoch : (p : Publishing) → EnoughForOne p →
       publish_verdict (server first_change) p
