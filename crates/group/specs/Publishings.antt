@@ -45,7 +45,7 @@ lent_verdict s p =
     cond (tight p.work) (refused 9 [])
     (cond (nat_lt (length p.material) (drawn (row s))) (refused 10 (drawn (row s) ∷ []))
     (cond (nat_lt (length p.pairs) (length (plan_of s p)))
-        (refused 11 (length (plan_of s p) ∷ [])) (Ok tt)))
+    (refused 11 (length (plan_of s p) ∷ [])) (Ok tt)))
 
 -- all checks before the plan is written: 7, 8, 9, 10, 11
 abbrev pub plan_verdict : State → Publishing → Verdict (Unit {0})

@@ -10,7 +10,7 @@ invariant_of-self g c =
     let wrap = key_wrap w.wrap_kind w.wrap_length w.sealed w.opened in
     let call : Call = publish (publishing g.S.Strategy.planned wrap c.args.material.now c.args.pairs.now c.args.file.now c.args.work.now) in
     let given : Given call = publish_given _ _ _ _ _ g.met.S.Strategy.lawful
-      laws.kind_range laws.length_range laws.sealed_sized laws.opens_sealed laws.opened_was_sealed _ c.type_inv.material in
+    laws.kind_range laws.length_range laws.sealed_sized laws.opens_sealed laws.opened_was_sealed _ c.type_inv.material in
     let is = c.publish.ensures.server in
     (sound_after call given old c.publish.new.state is c.self.invariant.0, run_after call given old c.publish.new.state is c.self.invariant.1)
 
