@@ -101,7 +101,8 @@ impl Site {
         wrap: &W,
         material: &mut &[u8],
     ) -> io::Result<()> {
-        if self.change(rt, strategy, wrap, material)? {
+        let newest = vec![in rt.alloc(); 0; FILE_BYTES]?;
+        if self.change(rt, strategy, wrap, material, newest)? {
             self.enrol(rt, wrap)?;
             self.hand_out(rt, wrap)?;
         }
@@ -154,15 +155,16 @@ impl Site {
         Ok(())
     }
 
-    // Publishes; whether that was not refused.
+    // Publishes; whether that was not refused. The room for the file is there before: what is published
+    // is kept, whatever fails.
     fn change<S: Strategy, W: Wrap>(
         &mut self,
         rt: &HostRuntime,
         strategy: &S,
         wrap: &W,
         material: &mut &[u8],
+        mut newest: Vec<u8>,
     ) -> io::Result<bool> {
-        let mut newest = vec![in rt.alloc(); 0; FILE_BYTES]?;
         print!(rt; "publish: ")?;
         match publish_into(&mut self.server, strategy, wrap, *material, &mut newest) {
             Ok(published) => {
