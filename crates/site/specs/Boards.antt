@@ -18,7 +18,7 @@ abbrev pub IsPlayed : List ℕ → Option AnyPlayer → List ℕ → Type 0
 IsPlayed card None ring = ⊥
 IsPlayed card (Some p) ring = IsOnCourse card (player_of p) ring
 
--- whoever was on a course with a card still is, with another ring, after a call
+-- if the first player, with its ring, is on a course with some card, so is the second with its own
 abbrev pub StaysOnCourse : Player → List ℕ → Player → List ℕ → Type 0
 StaysOnCourse p ring q left =
     (card : List ℕ) → ∥ IsOnCourse card p ring ∥₁ → ∥ IsOnCourse card q left ∥₁

@@ -4,7 +4,7 @@ use Rattle.group.specs.declared.state.State.{State}
 use Rattle.group.specs.Calls.{Call}
 use Rattle.runs.specs.Runs.{Edition, run, AllGiven}
 
--- the bytes of the newest of these files, where there is one
+-- the bytes of the newest of these files; none where there is no file
 abbrev pub newest_bytes : List Edition → List ℕ
 newest_bytes [] = []
 newest_bytes (x ∷ earlier) = x.bytes

@@ -82,7 +82,7 @@ pub(crate) struct Board {
     ring: [u8; RING_BYTES],
     // It is out only while a call moves it.
     player: Option<AnyPlayer>,
-    // It is enrolled with the card, the ring is its own, and it accepts what it is given to read.
+    // It was enrolled with the card, and its own calls alone wrote the ring.
     ghost played: { ∥ IsPlayed card player ring ∥₁ },
 }
 
