@@ -2,7 +2,7 @@
 use crate::bytes::{CARD_11, FILE_1, FILE_2, GROUP_KEYS};
 use crate::players::{Calls, enrolled, reads};
 use kw::KeyWrap;
-use player::{AnyPlayer, EnrolFault, RingFault, enrol};
+use player::{AnyPlayer, EnrolFault, RingFault, Seated, enrol};
 use siv::Siv;
 use std::process::Abort;
 
@@ -91,6 +91,25 @@ fn a_card_fills_the_first_entry(rt: HostRuntime) {
     }
 }
 
+// Shows from and wipes no bytes of another length; the player comes back.
+fn refuses_other_lengths(rt: &impl Abort, mut player: Seated, ring: &[u8; 288]) -> Option<Seated> {
+    let mut long = [9u8; 300];
+    long[..288].copy_from_slice(ring);
+    for bytes in [0, 287, 289, 300] {
+        assert!(rt; bytes <= 300);
+        assert_eq!(rt; player.show(&long[..bytes]), Err(RingFault::NotARing));
+        let kept = long;
+        let Err(refused) = player.wipe(&mut long[..bytes]) else {
+            assert!(rt; false, "{bytes} bytes are wiped");
+            return None;
+        };
+        assert!(rt; refused.fault == RingFault::NotARing && refused.fault.number() == 14);
+        assert!(rt; long == kept);
+        player = refused.player;
+    }
+    Some(player)
+}
+
 #[test]
 fn a_seated_player_shows_and_wipes(rt: HostRuntime) {
     let rt = &rt;
@@ -98,25 +117,14 @@ fn a_seated_player_shows_and_wipes(rt: HostRuntime) {
     let player = enrolled(rt, &CARD_11, &mut ring);
     assert!(rt; player.shown(&ring).is_none());
     let player = reads(rt, player, &KeyWrap, &FILE_1, &mut ring, GROUP_KEYS[0]);
-    let AnyPlayer::Seated(mut player) = player else {
+    let AnyPlayer::Seated(player) = player else {
         assert!(rt; false, "the player waits");
         return;
     };
     let before = ring;
-    let mut long = [9u8; 300];
-    long[..288].copy_from_slice(&ring);
-    for bytes in [0, 287, 289, 300] {
-        assert!(rt; bytes <= 300);
-        assert_eq!(rt; player.show(&long[..bytes]), Err(RingFault::NotARing));
-        let kept = long;
-        let Err(refused) = player.wipe(&mut long[..bytes]) else {
-            assert!(rt; false, "{bytes} bytes are wiped");
-            return;
-        };
-        assert!(rt; refused.fault == RingFault::NotARing && refused.fault.number() == 14);
-        assert!(rt; long == kept);
-        player = refused.player;
-    }
+    let Some(player) = refuses_other_lengths(rt, player, &ring) else {
+        return;
+    };
     assert!(rt; player.show(&ring) == Ok(GROUP_KEYS[0]) && ring == before);
     // It is the player that it was: it reads the next file.
     let player = reads(
