@@ -11,7 +11,7 @@ top=$(cd "$(dirname "$0")/.." && pwd)
 copy=$(mktemp -d)
 trap 'rm -rf "$copy"' EXIT
 (cd "$top" && tar cf - --exclude .git --exclude target .) | (cd "$copy" && tar xf -)
-printf '\n# a misuse\nmisuse: byte_strings aes wrap kw player\n' >>"$copy/crates.txt"
+printf '\n# a misuse\nmisuse: wrap wrap_rules kw player\n' >>"$copy/crates.txt"
 mkdir -p "$copy/crates/misuse/src"
 
 # turned_down WHAT MESSAGE: the crate on standard input is refused with that message
@@ -105,10 +105,8 @@ turned_down "a key wrap seals without the checks of the interface" \
 //! A key wrap seals without the checks of the interface.
 #![tactic(auto)]
 
-ghost use Rattle.std.proofs.Common.{lit≤};
-ghost use Rattle.aes.proofs.Permuting.{permutes};
-ghost use Rattle.kw.specs.Wrapping.{key_wrap, key_unwrap};
-ghost use Rattle.kw.specs.Lawful.{wrap_sized, unwrap_wrap, unwrap_only};
+ghost use Rattle.wrap_rules.specs.Meanings.{rfc_3394};
+ghost use Rattle.wrap_rules.proofs.Lawful.{rfc_3394_lawful};
 
 use kw::KeyWrap;
 use wrap::{Wrap, WrapFault};
@@ -116,23 +114,9 @@ use wrap::{Wrap, WrapFault};
 pub struct Unchecked;
 
 impl Wrap for Unchecked {
-    ghost wrap_kind = { 1 };
+    ghost meaning = { rfc_3394 };
 
-    ghost wrap_length = { 40 };
-
-    ghost sealed = { λ key name content. key_wrap key content };
-
-    ghost opened = { λ key name bytes. key_unwrap key bytes };
-
-    ghost kind_range = { (lit≤ tt, lit≤ tt) };
-
-    ghost length_range = { (lit≤ tt, lit≤ tt) };
-
-    ghost sealed_sized = { λ k n c hk hn hc. wrap_sized k (permutes k hk.1) c hc };
-
-    ghost opens_sealed = { λ k n c hk hn hc. unwrap_wrap k (permutes k hk.1) c hc };
-
-    ghost opened_was_sealed = { λ k n z c hk hn hz o. unwrap_only k (permutes k hk.1) z c hz o };
+    ghost lawful = { rfc_3394_lawful };
 
     fn kind(&self) -> u8 {
         KeyWrap.kind()

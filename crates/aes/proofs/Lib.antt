@@ -1,3 +1,6 @@
+pub mod Sixteen
+pub mod Steps
+pub mod StateWords
 pub mod Words
 pub mod Turns
 pub mod Undo

@@ -3,10 +3,10 @@ use Rattle.std.proofs.Common.{◌≡◌, ℕ, zero, suc, ◌+◌, ◌-◌, ◌*�
 use Rattle.std.proofs.lemmas.Bool.{cases_eq, cases_lt}
 use Rattle.std.proofs.lemmas.List.{take_at, take_all, length-append, length-drop, length-take-le}
 use lib.Seq.{take-add}
-use Rattle.byte_strings.specs.Strings.{part, over, xors}
+use Rattle.byte_strings.specs.Strings.{part, xors}
 use Rattle.byte_strings.proofs.Xors.{xors_length}
-use Rattle.byte_strings.proofs.Parts.{last_part, middle_part}
-use Rattle.aes.specs.KeySchedule.{word, temp, next_word, expanded, key_expansion}
+use Rattle.byte_strings.proofs.Parts.{last_part}
+use Rattle.aes.specs.KeySchedule.{word, temp, next_word, expanded_key, key_expansion}
 use Rattle.aes.specs.Laws.{IsSchedule, HasOneSchedule}
 use Rattle.aes.proofs.Words.{part_front}
 
@@ -41,12 +41,13 @@ same_words w v n lw lv h =
 
 module _ (nk : ℕ) (some : 1 ≤ nk) (key : List ℕ) where
   -- the words of w before the word n are those of a schedule
-  pub record RulesTo (n : ℕ) (w : List ℕ) : Type 0 where
+  pub record IsScheduleTo (n : ℕ) (w : List ℕ) : Type 0 where
     pub key_words : (i : ℕ) → i < nk → word w i ≡ word key i
     pub later_words : (i : ℕ) → nk ≤ i → i < n → word w i ≡ xors (word w (i - nk)) (temp nk i (word w (i - 1)))
 
   -- one word more, made by the rule, where the words before it stay
-  pub rules_more : (n : ℕ) (w v : List ℕ) → nk ≤ n → ((i : ℕ) → i < n → word v i ≡ word w i) → word v n ≡ next_word nk w n → RulesTo n w → RulesTo (n + 1) v
+  pub rules_more : (n : ℕ) (w v : List ℕ) → nk ≤ n → ((i : ℕ) → i < n → word v i ≡ word w i) → word v n ≡ next_word nk w n → IsScheduleTo n w
+      → IsScheduleTo (n + 1) v
   unfolding next_word
   rules_more n w v past before made r = record {
     key_words = λ i l. before i (omega arith) ∙ r.key_words i l;
@@ -63,22 +64,22 @@ module _ (nk : ℕ) (some : 1 ≤ nk) (key : List ℕ) where
   unfolding next_word
   next_length w n past long = xors_length (word w (n - nk)) (temp nk n (word w (n - 1))) ∙ word_length w (n - nk) (omega (arith, long))
 
-  expanded_rules : length key ≡ 4 * nk → (n : ℕ) → (length (expanded nk key n) ≡ 4 * (nk + n)) × RulesTo (nk + n) (expanded nk key n)
-  unfolding expanded
+  expanded_rules : length key ≡ 4 * nk → (n : ℕ) → (length (expanded_key nk key n) ≡ 4 * (nk + n)) × IsScheduleTo (nk + n) (expanded_key nk key n)
+  unfolding expanded_key
   expanded_rules long zero = (omega (arith, long), record { key_words = λ i l. refl; later_words = λ i p l. absurd (omega arith) })
   expanded_rules long (suc n) =
-      let w = expanded nk key n in
+      let w = expanded_key nk key n in
       let x = next_word nk w (nk + n) in
       let r = expanded_rules long n in
       let four = next_length w (nk + n) (omega arith) r.0 in
       let on : nk + n + 1 ≡ nk + suc n = omega arith in (
         length-append w x ∙ omega (arith, r.0, four),
-        subst (λ (m : ℕ). RulesTo m (w ++ x)) on
+        subst (λ (m : ℕ). IsScheduleTo m (w ++ x)) on
             (rules_more (nk + n) w (w ++ x) (omega arith) (λ i l. word_before w x (nk + n) i r.0 l) (word_behind w x (nk + n) r.0 four) r.1),
       )
 
   -- two schedules have the same words, by those that come before each
-  one_by_rules : (n : ℕ) (w v : List ℕ) → RulesTo n w → RulesTo n v → (k i : ℕ) → i ≤ k → i < n → word w i ≡ word v i
+  one_by_rules : (n : ℕ) (w v : List ℕ) → IsScheduleTo n w → IsScheduleTo n v → (k i : ℕ) → i ≤ k → i < n → word w i ≡ word v i
   one_by_rules n w v a b zero i h l = a.key_words i (omega arith) ∙ sym (b.key_words i (omega arith))
   one_by_rules n w v a b (suc k) i h l = elim (cases_lt i nk) [
     | inl f ↦ a.key_words i f ∙ sym (b.key_words i f)
@@ -89,14 +90,14 @@ module _ (nk : ℕ) (some : 1 ≤ nk) (key : List ℕ) where
         ∙ sym (b.later_words i g l)
   ]
 
-  pub schedule_from : (w : List ℕ) → length w ≡ 16 * (nk + 7) → RulesTo (4 * (nk + 7)) w → IsSchedule nk key w
+  pub schedule_from : (w : List ℕ) → length w ≡ 16 * (nk + 7) → IsScheduleTo (4 * (nk + 7)) w → IsSchedule nk key w
   schedule_from w long r = record { size = long; key_words = r.key_words; later_words = r.later_words }
 
   one_schedule : (w v : List ℕ) → IsSchedule nk key w → IsSchedule nk key v → w ≡ v
   one_schedule w v a b = same_words w v (4 * (nk + 7)) (omega (arith, a.size)) (omega (arith, b.size))
       (λ i l. one_by_rules (4 * (nk + 7)) w v (rules a) (rules b) i i (omega arith) l)
     where
-      rules : {s : List ℕ} → IsSchedule nk key s → RulesTo (4 * (nk + 7)) s
+      rules : {s : List ℕ} → IsSchedule nk key s → IsScheduleTo (4 * (nk + 7)) s
       rules c = record { key_words = c.key_words; later_words = c.later_words }
 
   pub has_one_schedule : length key ≡ 4 * nk → HasOneSchedule nk key
@@ -104,10 +105,10 @@ module _ (nk : ℕ) (some : 1 ≤ nk) (key : List ℕ) where
   has_one_schedule long =
       let words : length key / 4 ≡ nk = omega arith in
       let all : nk + (3 * nk + 28) ≡ 4 * (nk + 7) = omega arith in
-      let w = expanded nk key (3 * nk + 28) in
-      let is : key_expansion key ≡ w = ap (λ k. expanded k key (3 * k + 28)) words in
+      let w = expanded_key nk key (3 * nk + 28) in
+      let is : key_expansion key ≡ w = ap (λ k. expanded_key k key (3 * k + 28)) words in
       let r = expanded_rules long (3 * nk + 28) in
-      let made = schedule_from w (omega (arith, r.0)) (subst (λ (n : ℕ). RulesTo n w) all r.1) in
+      let made = schedule_from w (omega (arith, r.0)) (subst (λ (n : ℕ). IsScheduleTo n w) all r.1) in
       record {
         is_schedule = subst (IsSchedule nk key) (sym is) made;
         only_one = λ v s. one_schedule v w s made ∙ sym is;

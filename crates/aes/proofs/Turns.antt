@@ -5,7 +5,7 @@ use Rattle.std.proofs.lemmas.Grind.{fold-append, reverse_onto}
 use Rattle.std.specs.List.{fold}
 use Rattle.std.specs.Simd.{first_chunks}
 use Rattle.byte_strings.specs.Strings.{xors}
-use Rattle.round.specs.Rounds.{round_of, last_round, inv_round, inv_last_round}
+use Rattle.aes.specs.Rounds.{round_of, last_round, inv_round, inv_last_round}
 use Rattle.aes.specs.Cipher.{round_key, rounds, cipher, inv_rounds, inv_cipher}
 
 module _ (w : List ℕ) where
@@ -40,10 +40,17 @@ module _ (w : List ℕ) where
       ∙ inv_rounds_after n (suc k) s
       ∙ ap (λ (m : ℕ). inv_rounds w m s) e
 
-  pub cipher_by : (nr : ℕ) (s : List ℕ) → last_round (fold round_of (xors s (round_key w 0)) (first_chunks 16 (nr - 1) (drop 16 w))) (round_key w nr) ≡ cipher nr w s
+  pub cipher_by : (nr : ℕ) (s : List ℕ)
+      → last_round (fold round_of (xors s (round_key w 0)) (first_chunks 16 (nr - 1) (drop 16 w))) (round_key w nr) ≡ cipher nr w s
   unfolding cipher rounds keys_after
-  cipher_by nr s = ap (λ (t : List ℕ). last_round t (round_key w nr)) (rounds_after (nr - 1) 0 s ∙ (let e : 0 + (nr - 1) ≡ nr - 1 = omega arith in ap (λ (m : ℕ). rounds w m s) e))
+  cipher_by nr s =
+      let e : 0 + (nr - 1) ≡ nr - 1 = omega arith in
+      ap (λ (t : List ℕ). last_round t (round_key w nr)) (rounds_after (nr - 1) 0 s ∙ ap (λ (m : ℕ). rounds w m s) e)
 
-  pub inv_cipher_by : (nr : ℕ) (s : List ℕ) → inv_last_round (fold inv_round (xors s (round_key w nr)) (reverse (first_chunks 16 (nr - 1) (drop 16 w)))) (round_key w 0) ≡ inv_cipher nr w s
+  pub inv_cipher_by : (nr : ℕ) (s : List ℕ)
+      → inv_last_round (fold inv_round (xors s (round_key w nr)) (reverse (first_chunks 16 (nr - 1) (drop 16 w)))) (round_key w 0) ≡ inv_cipher nr w s
   unfolding inv_cipher inv_rounds keys_after
-  inv_cipher_by nr s = inv_rounds_after (nr - 1) 0 (xors s (round_key w nr)) ∙ (let e : 0 + (nr - 1) ≡ nr - 1 = omega arith in ap (λ (m : ℕ). inv_rounds w m (xors s (round_key w nr))) e)
+  inv_cipher_by nr s =
+      let e : 0 + (nr - 1) ≡ nr - 1 = omega arith in
+      let start = xors s (round_key w nr) in
+      inv_rounds_after (nr - 1) 0 start ∙ ap (λ (m : ℕ). inv_rounds w m start) e

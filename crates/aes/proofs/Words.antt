@@ -1,10 +1,12 @@
 -- The words of the key schedule, one more at a time.
-use Rattle.std.proofs.Common.{◌≡◌, ℕ, ◌+◌, ◌-◌, ◌*◌, ◌/◌, ◌<◌, ◌≤◌, Bool, true, false, ◌||◌, eqb, ◌⊎◌, List, [], ◌∷◌, ◌++◌, length, get_or, take, drop, sym, refl, ap, ◌∙◌, ap₂, inl, inr, append_assoc, add-one, arith, eqb-true}
+use Rattle.std.proofs.Common.{◌≡◌, ℕ, ◌+◌, ◌-◌, ◌*◌, ◌/◌, ◌<◌, ◌≤◌, Bool, true, false, ◌||◌, eqb, ◌⊎◌, List, [], ◌∷◌, ◌++◌, length, get_or, take, drop, sym}
+use Rattle.std.proofs.Common.{refl, ap, ◌∙◌, ap₂, inl, inr, append_assoc, add-one, arith, eqb-true}
 use Rattle.std.proofs.lemmas.List.FromFn.{fill_by_all}
-use Rattle.std.proofs.lemmas.List.{take_at, take-take, drop-take, take_all, length-append, length-take-le}
-use Rattle.byte_strings.specs.Strings.{part, over, xors}
-use Rattle.aes.specs.KeySchedule.{key_length, temp, next_word, expanded, key_expansion}
+use Rattle.std.proofs.lemmas.List.{take_at, take-take, drop-take, length-append, length-take-le}
+use Rattle.byte_strings.specs.Strings.{part, overlay, xors}
+use Rattle.aes.specs.KeySchedule.{is_key_length, temp, next_word, expanded_key, key_expansion}
 
+-- a word is the list of its four bytes
 pub four : (a : List ℕ) → length a ≡ 4 → a ≡ get_or a 0 0 ∷ get_or a 1 0 ∷ get_or a 2 0 ∷ get_or a 3 0 ∷ []
 four a h = fill_by_all (λ i. get_or a i 0) a 4 0 h (λ k l. refl)
 
@@ -22,16 +24,17 @@ unfolding next_word
 next_front nk i w some past =
     ap₂ (λ a b. xors a (temp nk i b)) (part_front 4 (4 * (i - nk)) (4 * i) w (omega arith)) (part_front 4 (4 * (i - 1)) (4 * i) w (omega arith))
 
-expanded_more : (nk : ℕ) (key : List ℕ) (n : ℕ) → expanded nk key n ++ next_word nk (expanded nk key n) (nk + n) ≡ expanded nk key (n + 1)
-unfolding expanded
+expanded_more : (nk : ℕ) (key : List ℕ) (n : ℕ) → expanded_key nk key n ++ next_word nk (expanded_key nk key n) (nk + n) ≡ expanded_key nk key (n + 1)
+unfolding expanded_key
 expanded_more nk key n = rw add-one
 
-pub expanded_none : (nk : ℕ) (w : List ℕ) → take (4 * nk) w ≡ expanded nk (take (4 * nk) w) (nk - nk)
-unfolding expanded
+pub expanded_none : (nk : ℕ) (w : List ℕ) → take (4 * nk) w ≡ expanded_key nk (take (4 * nk) w) (nk - nk)
+unfolding expanded_key
 expanded_none nk w = let none : nk - nk ≡ 0 = omega arith in rw none
 
+-- the word i, where those before it are written, is one of the expansion more
 pub word_more : (nk i : ℕ) (w key x : List ℕ) → 0 < nk → nk ≤ i → 4 * i + 4 ≤ length w → length x ≡ 4
-    → take (4 * i) w ≡ expanded nk key (i - nk) → x ≡ next_word nk w i → take (4 * (i + 1)) (over w (4 * i) x) ≡ expanded nk key (i + 1 - nk)
+    → take (4 * i) w ≡ expanded_key nk key (i - nk) → x ≡ next_word nk w i → take (4 * (i + 1)) (overlay w (4 * i) x) ≡ expanded_key nk key (i + 1 - nk)
 word_more nk i w key x some past room long e is =
     let front : length (take (4 * i) w) ≡ 4 * i = length-take-le (4 * i) w (omega arith) in
     let both : length (take (4 * i) w ++ x) ≡ 4 * (i + 1) = length-append (take (4 * i) w) x ∙ omega (arith, front, long) in
@@ -41,18 +44,12 @@ word_more nk i w key x some past room long e is =
     ∙ take_at (take (4 * i) w ++ x) (drop (length x) (drop (4 * i) w)) (4 * (i + 1)) both
     ∙ ap (λ l. take (4 * i) w ++ l) (is ∙ sym (next_front nk i w some past))
     ∙ ap (λ v. v ++ next_word nk v i) e
-    ∙ ap (λ m. expanded nk key (i - nk) ++ next_word nk (expanded nk key (i - nk)) m) (sym here)
+    ∙ ap (λ m. expanded_key nk key (i - nk) ++ next_word nk (expanded_key nk key (i - nk)) m) (sym here)
     ∙ expanded_more nk key (i - nk)
-    ∙ ap (expanded nk key) next
-
-pub words_all : (nk i : ℕ) (w key : List ℕ) → length w ≡ 16 * nk + 112 → i ≡ 4 * nk + 28 → take (4 * i) w ≡ expanded nk key (i - nk) → w ≡ expanded nk key (3 * nk + 28)
-words_all nk i w key long end e =
-    let whole : length w ≤ 4 * i = omega arith in
-    let n : i - nk ≡ 3 * nk + 28 = omega arith in
-    sym (take_all (4 * i) w whole) ∙ e ∙ ap (expanded nk key) n
+    ∙ ap (expanded_key nk key) next
 
 -- the two lengths of a key, in words
-pub key_words : (n : ℕ) → key_length n ≡ true → (4 ≤ n / 4) × (n / 4 ≤ 8) × (4 * (n / 4) ≡ n)
+key_words : (n : ℕ) → is_key_length n ≡ true → (4 ≤ n / 4) × (n / 4 ≤ 8) × (4 * (n / 4) ≡ n)
 key_words n h = go (eqb n 16) refl
   where
     words : n ≡ 16 ⊎ n ≡ 32 → (4 ≤ n / 4) × (n / 4 ≤ 8) × (4 * (n / 4) ≡ n)
@@ -68,8 +65,10 @@ key_words n h = go (eqb n 16) refl
     go false e = words (inr (eqb-true n 32 (other (eqb n 16) (eqb n 32) h e)))
 
 -- the schedule's front is the key, so what follows makes it the key's
-pub key_expanded : (n : ℕ) (key w : List ℕ) → length key ≡ n → 4 * (n / 4) ≡ n → expanded (n / 4) (take (4 * (n / 4)) (over w 0 key)) (3 * (n / 4) + 28) ≡ key_expansion key
+pub key_expanded : (n : ℕ) (key w : List ℕ) → is_key_length n ≡ true → length key ≡ n
+    → expanded_key (n / 4) (take (4 * (n / 4)) (overlay w 0 key)) (3 * (n / 4) + 28) ≡ key_expansion key
 unfolding key_expansion
-key_expanded n key w long whole =
-    ap (λ k. expanded (n / 4) k (3 * (n / 4) + 28)) (take_at key (drop (length key) w) (4 * (n / 4)) (long ∙ sym whole))
-    ∙ ap (λ m. expanded (m / 4) key (3 * (m / 4) + 28)) (sym long)
+key_expanded n key w is long =
+    let whole : 4 * (n / 4) ≡ n = (key_words n is).2 in
+    ap (λ k. expanded_key (n / 4) k (3 * (n / 4) + 28)) (take_at key (drop (length key) w) (4 * (n / 4)) (long ∙ sym whole))
+    ∙ ap (λ m. expanded_key (m / 4) key (3 * (m / 4) + 28)) (sym long)

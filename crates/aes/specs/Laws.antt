@@ -1,17 +1,17 @@
 -- What holds of key schedules, and of AES and its inverse.
 use Rattle.std.specs.Prelude.{◌≡◌, ℕ, ◌+◌, ◌-◌, ◌*◌, ◌<◌, ◌≤◌, List, length}
-use Rattle.byte_strings.specs.Strings.{Bytes, Sized, xors}
+use Rattle.byte_strings.specs.Strings.{IsBytes, IsSized, xors}
 use Rattle.aes.specs.KeySchedule.{word, temp, key_expansion}
 use Rattle.aes.specs.Cipher.{encrypt, decrypt}
 
--- w is a schedule of a key of nk words, by section 5.2 of FIPS 197
+-- FIPS 197, 5.2: w is a schedule of a key of nk words
 pub record IsSchedule (nk : ℕ) (key w : List ℕ) : Type 0 where
   -- four words for each of nk + 6 rounds, and four before them
   pub size : length w ≡ 16 * (nk + 7)
   -- the first nk words are the key's
   pub key_words : (i : ℕ) → i < nk → word w i ≡ word key i
-  -- each later word is the one nk places before it, and to that is added what the standard makes of
-  -- the word before
+  -- each later word is the sum of the one nk places before it and of what the standard makes of the
+  -- word before
   pub later_words : (i : ℕ) → nk ≤ i → i < 4 * (nk + 7) →
       word w i ≡ xors (word w (i - nk)) (temp nk i (word w (i - 1)))
 
@@ -20,18 +20,18 @@ pub record HasOneSchedule (nk : ℕ) (key : List ℕ) : Type 0 where
   pub is_schedule : IsSchedule nk key (key_expansion key)
   pub only_one : (w : List ℕ) → IsSchedule nk key w → w ≡ key_expansion key
 
--- a key of one word or more; AES has 4, 6 and 8
+-- of each key of one word or more; AES has those of 4, 6 and 8
 abbrev pub EachKeyHasOneSchedule : Type 0
 EachKeyHasOneSchedule =
     (nk : ℕ) (key : List ℕ) → 1 ≤ nk → length key ≡ 4 * nk → HasOneSchedule nk key
 
--- of a key of bytes: AES and its inverse undo each other, and both make blocks of blocks
+-- under this key, AES and its inverse undo each other on blocks, and make blocks of blocks
 pub record Permutes (key : List ℕ) : Type 0 where
-  pub back : (s : List ℕ) → Sized 16 s → decrypt key (encrypt key s) ≡ s
-  pub forth : (s : List ℕ) → Sized 16 s → encrypt key (decrypt key s) ≡ s
-  pub stays : (s : List ℕ) → Sized 16 s → Sized 16 (encrypt key s)
-  pub returns : (s : List ℕ) → Sized 16 s → Sized 16 (decrypt key s)
+  pub decrypt_encrypt : (s : List ℕ) → IsSized 16 s → decrypt key (encrypt key s) ≡ s
+  pub encrypt_decrypt : (s : List ℕ) → IsSized 16 s → encrypt key (decrypt key s) ≡ s
+  pub encrypt_sized : (s : List ℕ) → IsSized 16 s → IsSized 16 (encrypt key s)
+  pub decrypt_sized : (s : List ℕ) → IsSized 16 s → IsSized 16 (decrypt key s)
 
--- under every key of bytes
+-- under every key of bytes, whatever its length
 abbrev pub AesPermutesBlocks : Type 0
-AesPermutesBlocks = (key : List ℕ) → Bytes key → Permutes key
+AesPermutesBlocks = (key : List ℕ) → IsBytes key → Permutes key

@@ -1,3 +1,5 @@
+pub mod State
+pub mod Rounds
 pub mod KeySchedule
 pub mod Cipher
 pub mod Keyed

@@ -1,7 +1,8 @@
-//! The key schedule.
+//! The key schedule, in lent bytes.
 ghost use Rattle.std.specs.Prelude.{◌+◌, ◌*◌, ◌≤◌, length};
 
-/// A key's schedule, in lent bytes: a round key of 16 bytes for each of `rounds` rounds, and one before them.
+/// A key's schedule: a round key of 16 bytes for each of `rounds` rounds, and one before them. What
+/// follows in `bytes` is not read.
 #[derive(Clone, Copy)]
 pub struct Schedule<'a> {
     pub bytes: &'a [u8],

@@ -1,8 +1,9 @@
--- Strings in chunks of as many bytes each.
+-- Strings in chunks of n bytes each.
 use Rattle.std.proofs.Common.{◌≡◌, ℕ, zero, suc, ◌+◌, ◌-◌, ◌*◌, ◌≤◌, List, ◌∷◌, take, drop, sym, refl, ap₂, ap, ◌∙◌, arith}
 use Rattle.std.proofs.lemmas.List.{take-take, drop-take}
 use Rattle.std.specs.Simd.{first_chunks}
 
+-- the first k chunks of a string are those of its front
 pub chunks_front : (n k m : ℕ) (xs : List ℕ) → k * n ≤ m → first_chunks n k (take m xs) ≡ first_chunks n k xs
 chunks_front n zero m xs h = refl
 chunks_front n (suc k) m xs h =

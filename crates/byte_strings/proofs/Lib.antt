@@ -6,3 +6,4 @@ pub mod Sames
 pub mod Parts
 pub mod Overs
 pub mod Tails
+pub mod Positions

@@ -4,32 +4,32 @@ use mathlib.Core.Bool.{and_assoc, and-true}
 use lib.Bits.{bit_xor, bit_or, or_add_and, and_le_r, xor_assoc, xor_self, xor_zero_r}
 use borrow.Author.Tests.{eqb-false}
 use Rattle.std.specs.List.{fold, zip}
-use Rattle.byte_strings.specs.Strings.{same}
+use Rattle.byte_strings.specs.Strings.{is_same}
 
 and_both : (a b : Bool) → a && b ≡ true → (a ≡ true) × (b ≡ true)
 and_both true b e = (refl, e)
 and_both false b e = let z : ◌≡◌ {A = ℕ} 0 1 = cc in absurd (omega arith)
 
-pub same_lists : (xs ys : List ℕ) → same xs ys ≡ true → xs ≡ ys
+pub same_lists : (xs ys : List ℕ) → is_same xs ys ≡ true → xs ≡ ys
 same_lists [] [] e = refl
 same_lists [] (y ∷ ys) e = let z : ◌≡◌ {A = ℕ} 0 1 = cc in absurd (omega arith)
 same_lists (x ∷ xs) [] e = let z : ◌≡◌ {A = ℕ} 0 1 = cc in absurd (omega arith)
 same_lists (x ∷ xs) (y ∷ ys) e =
-    let p = and_both (eqb x y) (same xs ys) e in
+    let p = and_both (eqb x y) (is_same xs ys) e in
     ap₂ (λ (a : ℕ) (l : List ℕ). a ∷ l) (eqb-true x y p.0) (same_lists xs ys p.1)
 
-pub same_self : (s : List ℕ) → same s s ≡ true
+pub same_self : (s : List ℕ) → is_same s s ≡ true
 same_self [] = refl
 same_self (x ∷ s) = rw (eq-eqb x x refl) (same_self s)
 
-pub unlike : (xs ys : List ℕ) → (xs ≡ ys → ⊥) → same xs ys ≡ false
-unlike xs ys n = go (same xs ys) refl
+pub unlike : (xs ys : List ℕ) → (xs ≡ ys → ⊥) → is_same xs ys ≡ false
+unlike xs ys n = go (is_same xs ys) refl
   where
-    go : (b : Bool) → same xs ys ≡ b → b ≡ false
+    go : (b : Bool) → is_same xs ys ≡ b → b ≡ false
     go false e = refl
     go true e = absurd (n (same_lists xs ys e))
 
--- the bits in which pairs of bytes differ, gathered
+-- The bits in which pairs of bytes differ, gathered in one byte.
 
 nonzero : (d z : ℕ) → bit_or (suc d) z ≡ 0 → ⊥
 nonzero d z e = omega (arith, and_le_r (suc d) z, or_add_and (suc d) z)
@@ -51,17 +51,18 @@ gathered (suc d) x y =
     ∙ ap (λ (t : Bool). t && eqb x y) (sym (ne_eqb (suc d) 0 (λ e. omega arith)))
 
 -- the bits gathered so far are none, and the strings are the same
-gathered_all : (d : ℕ) (a b : List ℕ) → length a ≡ length b → eqb (fold (λ bits p. bit_or bits (bit_xor p.0 p.1)) d (zip a b)) 0 ≡ eqb d 0 && same a b
+gathered_all : (d : ℕ) (a b : List ℕ) → length a ≡ length b → eqb (fold (λ bits p. bit_or bits (bit_xor p.0 p.1)) d (zip a b)) 0 ≡ eqb d 0 && is_same a b
 gathered_all d [] [] h = sym (and-true (eqb d 0))
 gathered_all d [] (y ∷ b) h = absurd (omega arith)
 gathered_all d (x ∷ a) [] h = absurd (omega arith)
 gathered_all d (x ∷ a) (y ∷ b) h =
     gathered_all (bit_or d (bit_xor x y)) a b (omega arith)
-    ∙ ap (λ (t : Bool). t && same a b) (gathered d x y)
-    ∙ and_assoc (eqb d 0) (eqb x y) (same a b)
+    ∙ ap (λ (t : Bool). t && is_same a b) (gathered d x y)
+    ∙ and_assoc (eqb d 0) (eqb x y) (is_same a b)
 
-pub same_gathered : (a b : List ℕ) (d : ℕ) → length a ≡ length b → d ≡ fold (λ bits p. bit_or bits (bit_xor p.0 p.1)) 0 (zip a b) → eqb d 0 ≡ same a b
+-- the comparison of strings of one length, and of others
+pub same_gathered : (a b : List ℕ) (d : ℕ) → length a ≡ length b → d ≡ fold (λ bits p. bit_or bits (bit_xor p.0 p.1)) 0 (zip a b) → eqb d 0 ≡ is_same a b
 same_gathered a b d h e = ap (λ (n : ℕ). eqb n 0) e ∙ gathered_all 0 a b h
 
-pub same_uneven : (a b : List ℕ) → (length a ≡ length b → ⊥) → false ≡ same a b
+pub same_uneven : (a b : List ℕ) → (length a ≡ length b → ⊥) → false ≡ is_same a b
 same_uneven a b n = sym (unlike a b (λ e. n (ap length e)))

@@ -14,6 +14,7 @@ tail_written a xs ys =
 pub tail_added : (a : ℕ) (s k ys : List ℕ) → ys ≡ xors (take (length s - a) (drop a s)) k → put_mid a (length s - a) s ys ≡ take a s ++ xors (drop a s) k
 tail_added a s k ys e = tail_written a s ys ∙ ap (λ (l : List ℕ). take a s ++ l) (e ∙ ap (λ (l : List ℕ). xors l k) (take_rest s a))
 
+-- the first n + m bytes, where n stand before ys
 pub take_past : {X : Type 0} (xs ys : List X) (n m : ℕ) → length xs ≡ n → take (n + m) (xs ++ ys) ≡ xs ++ take m ys
 take_past [] ys n m h = let e : n + m ≡ m = omega arith in ap (λ k. take k ys) e
 take_past (x ∷ xs) ys n m h =

@@ -1,7 +1,8 @@
 -- Exclusive or of strings: it undoes itself, keeps lengths and bytes, and goes along parts.
-use Rattle.std.proofs.Common.{◌≡◌, ℕ, zero, suc, ◌+◌, ◌<◌, ◌≤◌, min, List, [], ◌∷◌, ◌++◌, length, get_or, take, drop, set, sym, refl, ap, ◌∙◌, ap₂, add-one, arith}
+use Rattle.std.proofs.Common.{◌≡◌, ℕ, zero, suc, ◌+◌, ◌<◌, ◌≤◌, min, List, [], ◌∷◌, ◌++◌, length, get_or, take, drop, set, sym, refl, ap, ◌∙◌, ap₂, add-one}
+use Rattle.std.proofs.Common.{arith}
 use lib.Bits.{bit_xor, xor_zero_r, xor_self, xor_assoc, xor_lt}
-use Rattle.byte_strings.specs.Strings.{Bytes, Sized, xors}
+use Rattle.byte_strings.specs.Strings.{IsBytes, IsSized, xors}
 use Rattle.byte_strings.proofs.Writes.{write_more, read_here}
 
 xor_undo : (x y : ℕ) → bit_xor (bit_xor x y) y ≡ x
@@ -21,12 +22,12 @@ xors_length [] k = refl
 xors_length (x ∷ xs) [] = refl
 xors_length (x ∷ xs) (y ∷ ys) = ap suc (xors_length xs ys)
 
-pub xors_bytes : (s k : List ℕ) → Bytes s → Bytes k → Bytes (xors s k)
+pub xors_bytes : (s k : List ℕ) → IsBytes s → IsBytes k → IsBytes (xors s k)
 xors_bytes [] k hs hk = tt
 xors_bytes (x ∷ xs) [] hs hk = hs
 xors_bytes (x ∷ xs) (y ∷ ys) hs hk = (xor_lt 8 x y hs.0 hk.0, xors_bytes xs ys hs.1 hk.1)
 
-pub xors_sized : (n : ℕ) (s k : List ℕ) → Sized n s → Bytes k → Sized n (xors s k)
+pub xors_sized : (n : ℕ) (s k : List ℕ) → IsSized n s → IsBytes k → IsSized n (xors s k)
 xors_sized n s k h hk = (xors_length s k ∙ h.0, xors_bytes s k h.1 hk)
 
 -- a sum with two strings in a row is one with the first, and then with the second further on
@@ -44,7 +45,9 @@ pub front_none : (s x : List ℕ) → s ≡ xors_front s x 0
 unfolding xors_front
 front_none s x = refl
 
-xors_suc : (xs ys : List ℕ) (i : ℕ) → i < length xs → i < length ys → xors (take (suc i) xs) (take (suc i) ys) ≡ xors (take i xs) (take i ys) ++ (bit_xor (get_or xs i 0) (get_or ys i 0) ∷ [])
+-- one place more of a sum
+xors_suc : (xs ys : List ℕ) (i : ℕ) → i < length xs → i < length ys
+    → xors (take (suc i) xs) (take (suc i) ys) ≡ xors (take i xs) (take i ys) ++ (bit_xor (get_or xs i 0) (get_or ys i 0) ∷ [])
 xors_suc [] ys i h k = absurd (omega arith)
 xors_suc (x ∷ xs) [] i h k = absurd (omega arith)
 xors_suc (x ∷ xs) (y ∷ ys) zero h k = refl
@@ -56,7 +59,8 @@ front_length [] ys (suc i) h = absurd (omega arith)
 front_length (x ∷ xs) [] (suc i) h = ap suc (sym (xors_length (take i xs) (take i [])) ∙ front_length xs [] i (omega arith))
 front_length (x ∷ xs) (y ∷ ys) (suc i) h = ap suc (front_length xs ys i (omega arith))
 
-pub front_more : (s x out : List ℕ) (i : ℕ) → out ≡ xors_front s x i → i < length s → i < length x → set out i (bit_xor (get_or out i 0) (get_or x i 0)) ≡ xors_front s x (i + 1)
+pub front_more : (s x out : List ℕ) (i : ℕ) → out ≡ xors_front s x i → i < length s → i < length x
+    → set out i (bit_xor (get_or out i 0) (get_or x i 0)) ≡ xors_front s x (i + 1)
 unfolding xors_front
 front_more s x out i e h k =
     let P = xors (take i s) (take i x) in

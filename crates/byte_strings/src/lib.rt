@@ -1,11 +1,11 @@
-//! Strings of bytes: parts of a slice by value, writing over a part, exclusive or, comparison.
+//! Strings of bytes: a part by value, writing over a part, exclusive or, and comparison.
 #![tactic(auto)]
 
-ghost use Rattle.std.specs.Prelude.{◌≡◌, ℕ, ◌+◌, ◌≤◌, min, length, bit_or, bit_xor};
+ghost use Rattle.std.specs.Prelude.{◌≡◌, ◌+◌, ◌≤◌, min, length, bit_or, bit_xor};
 ghost use Rattle.std.specs.List.{fold, zip};
-ghost use Rattle.byte_strings.specs.Strings.{xors, over, part, same};
+ghost use Rattle.byte_strings.specs.Strings.{xors, overlay, part, is_same};
 
-/// The N bytes of `s` from place `at` on.
+/// The N bytes of `s` from place `at` on, by value.
 pub fn part_of<const N: usize>(s: &[u8], at: usize) -> [u8; N]
     requires { at + N ≤ length s.now }
     ensures { result ≡ part N at s.now }
@@ -19,13 +19,14 @@ pub fn part_of<const N: usize>(s: &[u8], at: usize) -> [u8; N]
 /// Writes `x` over `s`, from place `at` on.
 pub fn put(s: &mut [u8], at: usize, x: &[u8])
     requires { at + length x.now ≤ length s.old }
-    ensures { s.new ≡ over s.old at x.now }
+    ensures { s.new ≡ overlay s.old at x.now }
 {
     let n = x.len();
     s[at..at + n].copy_from_slice(x);
 }
 
-fn shorter(a: &[u8], b: &[u8]) -> usize
+// The length of the shorter of the two.
+fn common_length(a: &[u8], b: &[u8]) -> usize
     ensures { result ≡ min (length a.now) (length b.now) }
 {
     a.len().min(b.len())
@@ -36,13 +37,13 @@ pub fn xor_into(s: &mut [u8], x: &[u8])
     ensures { s.new ≡ xors s.old x.now }
 {
     // By index: what a slice holds after a zip of its `iter_mut` is not known to the prover.
-    for i in 0..shorter(s, x) {
+    for i in 0..common_length(s, x) {
         s[i] ^= x[i];
     }
 }
 
 /// The exclusive or of two strings of N bytes.
-pub fn xored<const N: usize>(a: [u8; N], b: [u8; N]) -> [u8; N]
+pub fn xor_of<const N: usize>(a: [u8; N], b: [u8; N]) -> [u8; N]
     ensures { result ≡ xors a.entry b.entry }
 {
     let mut out = a;
@@ -50,16 +51,17 @@ pub fn xored<const N: usize>(a: [u8; N], b: [u8; N]) -> [u8; N]
     out
 }
 
-// The bits in which some pair of bytes differs.
+// The bits in which a byte of one string differs from that at its place in the other.
 fn differences(a: &[u8], b: &[u8]) -> u8
     ensures { result ≡ fold (λ bits p. bit_or bits (bit_xor p.0 p.1)) 0 (zip a.now b.now) }
 {
     a.iter().zip(b).fold(0, |so_far, (x, y)| so_far | (x ^ y))
 }
 
-/// Are the two strings the same? Of two as long as each other it looks at every byte, wherever they differ.
+/// Are the two strings the same? Where they are of one length, every byte is read, wherever they
+/// differ.
 pub fn equal(a: &[u8], b: &[u8]) -> bool
-    ensures { result ≡ same a.now b.now }
+    ensures { result ≡ is_same a.now b.now }
 {
     a.len() == b.len() && differences(a, b) == 0
 }

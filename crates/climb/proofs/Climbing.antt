@@ -3,33 +3,41 @@ use Rattle.std.proofs.Common.{◌≡◌, ℕ, suc, ◌+◌, ◌-◌, ◌<◌, �
 use Rattle.std.specs.List.{range_with_len}
 use Rattle.refusal.specs.Refusals.{Verdict}
 use Rattle.keys.specs.declared.NodeKey.{NodeKey}
-use Rattle.rekey.specs.Files.{Rekey}
-use Rattle.group.specs.Calls.{KeyWrap}
-use Rattle.scanner.specs.Climbs.{risen, then, climbed, followed}
+use Rattle.file_rules.specs.Files.{Rekey}
+use Rattle.wrap.specs.Meaning.{WrapMeaning}
+use Rattle.player_rules.specs.Climbs.{ring_after_level, verdict_then, ring_after_levels, ring_after_file}
 use Rattle.climb.specs.declared.fault.ReadFault.{ReadFault}
-use Rattle.climb.specs.Refusals.{refusal_of, told_with}
+use Rattle.climb.specs.Refusals.{read_refusal, verdict_with}
 
-module _ (w : KeyWrap) (f : Rekey) (leaf : ℕ) where
+module _ (w : WrapMeaning) (f : Rekey) (leaf : ℕ) where
   -- the levels from k on
-  unfoldable pub climbed_from : ℕ → List NodeKey → Verdict (List NodeKey)
-  climbed_from k ring = climbed w f leaf (range_with_len k (8 - k)) ring
+  unfoldable pub ring_from_level : ℕ → List NodeKey → Verdict (List NodeKey)
+  ring_from_level k ring = ring_after_levels w f leaf (range_with_len k (8 - k)) ring
 
-  pub climb_all : (ring : List NodeKey) → climbed_from 1 ring ≡ followed w f leaf ring
-  unfolding climbed_from followed
+  pub climb_all : (ring : List NodeKey) → ring_from_level 1 ring ≡ ring_after_file w f leaf ring
+  unfolding ring_from_level ring_after_file
   climb_all ring = refl
 
-  pub climb_none : (k : ℕ) (ring : List NodeKey) → 8 ≤ k → climbed_from k ring ≡ Ok ring
-  unfolding climbed_from
-  climb_none k ring h = let e : 8 - k ≡ 0 = omega arith in ap (λ n. climbed w f leaf (range_with_len k n) ring) e
+  pub climb_none : (k : ℕ) (ring : List NodeKey) → 8 ≤ k → ring_from_level k ring ≡ Ok ring
+  unfolding ring_from_level
+  climb_none k ring h = let e : 8 - k ≡ 0 = omega arith in ap (λ n. ring_after_levels w f leaf (range_with_len k n) ring) e
 
-  climb_more : (k : ℕ) (ring : List NodeKey) → k < 8 → climbed_from k ring ≡ then (risen w f leaf k ring) (climbed_from (k + 1))
-  unfolding climbed_from
-  climb_more k ring h = let e : 8 - k ≡ suc (8 - (k + 1)) = omega arith in ap (λ n. climbed w f leaf (range_with_len k n) ring) e
+  climb_more : (k : ℕ) (ring : List NodeKey) → k < 8 → ring_from_level k ring ≡ verdict_then (ring_after_level w f leaf k ring) (ring_from_level (k + 1))
+  unfolding ring_from_level
+  climb_more k ring h = let e : 8 - k ≡ suc (8 - (k + 1)) = omega arith in ap (λ n. ring_after_levels w f leaf (range_with_len k n) ring) e
 
-  pub climb_on : (k : ℕ) (ring next : List NodeKey) (u : Unit {0}) (r : Result (Unit {0}) ReadFault) → k < 8 → told_with r next ≡ risen w f leaf k ring → r ≡ Ok u → climbed_from k ring ≡ climbed_from (k + 1) next
-  climb_on k ring next u r h told is =
-      climb_more k ring h ∙ ap (λ v. then v (climbed_from (k + 1))) (sym told ∙ ap (λ v. told_with v next) is)
+  -- a level, by what its result says
+  module _ (k : ℕ) (ring next : List NodeKey) (r : Result (Unit {0}) ReadFault) (before_end : k < 8)
+      (level : verdict_with r next ≡ ring_after_level w f leaf k ring) where
+    climb_by : (q : Result (Unit {0}) ReadFault) → r ≡ q → ring_from_level k ring ≡ verdict_then (verdict_with q next) (ring_from_level (k + 1))
+    climb_by q is = climb_more k ring before_end ∙ ap (λ v. verdict_then v (ring_from_level (k + 1))) (sym level ∙ ap (λ v. verdict_with v next) is)
 
-  pub climb_stopped : (k : ℕ) (ring next : List NodeKey) (fault : ReadFault) (r : Result (Unit {0}) ReadFault) → k < 8 → told_with r next ≡ risen w f leaf k ring → r ≡ Err fault → climbed_from k ring ≡ Err (refusal_of fault)
-  climb_stopped k ring next fault r h told is =
-      climb_more k ring h ∙ ap (λ v. then v (climbed_from (k + 1))) (sym told ∙ ap (λ v. told_with v next) is)
+  -- a level that is passed
+  pub climb_on : (k : ℕ) (ring next : List NodeKey) (u : Unit {0}) (r : Result (Unit {0}) ReadFault) → k < 8 →
+      verdict_with r next ≡ ring_after_level w f leaf k ring → r ≡ Ok u → ring_from_level k ring ≡ ring_from_level (k + 1) next
+  climb_on k ring next u r h level is = climb_by k ring next r h level (Ok u) is
+
+  -- a level that is refused
+  pub climb_stopped : (k : ℕ) (ring next : List NodeKey) (fault : ReadFault) (r : Result (Unit {0}) ReadFault) → k < 8 →
+      verdict_with r next ≡ ring_after_level w f leaf k ring → r ≡ Err fault → ring_from_level k ring ≡ Err (read_refusal fault)
+  climb_stopped k ring next fault r h level is = climb_by k ring next r h level (Err fault) is

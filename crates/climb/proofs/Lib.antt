@@ -1,3 +1,3 @@
-mod Finds
 mod Taken
+mod Finds
 mod Climbing

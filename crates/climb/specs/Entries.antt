@@ -1,20 +1,29 @@
 -- The entry that a wrap gives.
 use Rattle.std.specs.Prelude.{ℕ, List, [], ◌∷◌, Some, None, Ok, Option}
-use Rattle.refusal.specs.Refusals.{Verdict, refused}
-use Rattle.wrap.specs.Calls.{open_verdict, open_leaves}
+use Rattle.refusal.specs.Refusals.{Verdict, refusal, verdict_of}
+use Rattle.wrap.specs.Calls.{open_verdict, place_after_open}
+use Rattle.wrap.specs.Meaning.{WrapMeaning}
 use Rattle.keys.specs.declared.NodeKey.{NodeKey}
-use Rattle.keys.specs.Names.{named, wrap_name}
-use Rattle.rekey.specs.Files.{Wrapped}
-use Rattle.group.specs.Calls.{KeyWrap}
+use Rattle.file_reader.specs.Refusals.{refusal_with_index}
+use Rattle.file_reader.specs.Views.{content_under}
+use Rattle.file_reader.specs.declared.wraps.FileWrap.{FileWrap}
+use Rattle.climb.specs.Refusals.{refusal_with_epoch}
 
--- what the opening of a wrap of a file of that epoch tells, and leaves in the place of its content
-abbrev pub opening_verdict : KeyWrap → ℕ → List ℕ → Wrapped → List ℕ → Verdict (Unit {0})
-opening_verdict w epoch key x work = open_verdict w.length x.sealed_key (w.opens key (wrap_name x.opener (named x.content epoch)) x.sealed_key) work
+-- what the opening of a wrap under a key answers, as the reading reports it: 9, or 18 with the
+-- wrap's index and the file's epoch
+abbrev pub open_wrap_verdict : WrapMeaning → List ℕ → FileWrap → List ℕ → Verdict (Unit {0})
+open_wrap_verdict w key x work =
+    verdict_of (refusal_with_epoch x.content.epoch)
+    (verdict_of (refusal_with_index x.index)
+    (open_verdict w.length x.sealed.now (content_under w key x) work))
 
-abbrev pub opening_leaves : KeyWrap → ℕ → List ℕ → Wrapped → List ℕ → List ℕ → List ℕ
-opening_leaves w epoch key x place work = open_leaves w.length x.sealed_key (w.opens key (wrap_name x.opener (named x.content epoch)) x.sealed_key) place work
+-- the place for the content after such an opening: the content, or what it held
+abbrev pub place_after_open_wrap : WrapMeaning → List ℕ → FileWrap → List ℕ → List ℕ → List ℕ
+place_after_open_wrap w key x place work =
+    place_after_open w.length x.sealed.now (content_under w key x) place work
 
--- the content, made in the file's epoch; if there is none, 18 with the wrap's index and that epoch
-abbrev pub entry_taken : ℕ → ℕ → Option (List ℕ) → Verdict NodeKey
-entry_taken epoch index (Some key) = Ok (record { made = epoch; key = key })
-entry_taken epoch index None = refused 18 (index ∷ epoch ∷ [])
+-- the entry that a content becomes, made in the file's epoch; if there is none, 18 with the wrap's
+-- index and that epoch
+abbrev pub entry_with_key : ℕ → ℕ → Option (List ℕ) → Verdict NodeKey
+entry_with_key epoch index (Some key) = Ok (record { made = epoch; key = key })
+entry_with_key epoch index None = refusal 18 (index ∷ epoch ∷ [])

@@ -1,33 +1,43 @@
--- The refusals of reading a file: the number of each, and the values that are told with it.
-use Rattle.std.specs.Prelude.{ℕ, [], ◌∷◌, ◌++◌, Some, None, Ok, Err, Option, Result}
-use Rattle.refusal.specs.Refusals.{Refusal, Verdict, no}
-use Rattle.layout.specs.Refusals as files
+-- The refusals of reading a file: the number of each, and the values that are reported with it.
+use Rattle.std.specs.Prelude.{ℕ, if◌then◌else◌, [], ◌∷◌, ◌++◌, Ok, Err, Result, ◌==◌}
+use Rattle.refusal.specs.Refusals.{Refusal, Verdict, refusal_with}
+use Rattle.layout.specs.Refusals.{layout_refusal}
+use Rattle.layout.specs.declared.fault.LayoutFault.{LayoutFault}
+use Rattle.file_reader.specs.Refusals.{file_refusal}
 use Rattle.climb.specs.declared.fault.ReadFault.{ReadFault}
-use Rattle.climb.specs.declared.fault.ReadFault.TheVariants.{ShortWorking, NotARing, TooLow, TooHigh, File, ShutOut}
+use Rattle.climb.specs.declared.fault.ReadFault.TheVariants as read
 use Rattle.climb.specs.declared.fault.DatedFault.{DatedFault}
 
-abbrev pub dated : DatedFault → ReadFault
-dated f = File f.epoch f.fault
+-- a fault of the layout, as a fault of the reading: it has no epoch
+abbrev pub layout_read_fault : LayoutFault → ReadFault
+layout_read_fault f = read.Layout f
 
--- the file's epoch is told last, where there is one: behind the wrap's index of bytes that do not open, and not behind the place of a fault
-abbrev pub with_epoch : Option ℕ → Refusal → Refusal
-with_epoch None r = r
-with_epoch (Some epoch) r = no r.number (r.values ++ (epoch ∷ []))
+-- a fault of an opening beside the file's epoch, as a fault of the reading
+abbrev pub file_read_fault : DatedFault → ReadFault
+file_read_fault f = read.File f.epoch f.fault
 
-abbrev pub refusal_of : ReadFault → Refusal
-refusal_of ShortWorking = no 9 []
-refusal_of NotARing = no 14 []
-refusal_of (TooLow wanted) = no 16 (wanted ∷ [])
-refusal_of (TooHigh wanted) = no 17 (wanted ∷ [])
-refusal_of (File epoch fault) = with_epoch epoch (files.refusal_of fault)
-refusal_of (ShutOut node) = no 19 (node ∷ [])
+-- a file's refusal as the reading reports it: a wrap that does not open (18) reports the file's
+-- epoch too, after the wrap's index
+abbrev pub refusal_with_epoch : ℕ → Refusal → Refusal
+refusal_with_epoch epoch r =
+    refusal_with r.number (if r.number == 18 then r.values ++ (epoch ∷ []) else r.values)
 
--- what a result tells, with what it leaves if it was not refused
-abbrev pub told_with : {A : Type 0} → Result (Unit {0}) ReadFault → A → Verdict A
-told_with (Ok u) left = Ok left
-told_with (Err f) left = Err (refusal_of f)
+-- the number and the values of each refusal
+abbrev pub read_refusal : ReadFault → Refusal
+read_refusal read.ShortWorking = refusal_with 9 []
+read_refusal read.NotARing = refusal_with 14 []
+read_refusal (read.Layout fault) = layout_refusal fault
+read_refusal (read.TooLow wanted) = refusal_with 16 (wanted ∷ [])
+read_refusal (read.TooHigh wanted) = refusal_with 17 (wanted ∷ [])
+read_refusal (read.File epoch fault) = refusal_with_epoch epoch (file_refusal fault)
+read_refusal (read.ShutOut node) = refusal_with 19 (node ∷ [])
+
+-- a result as a verdict, with what the call leaves if it was not refused
+abbrev pub verdict_with : {A : Type 0} → Result (Unit {0}) ReadFault → A → Verdict A
+verdict_with (Ok u) left = Ok left
+verdict_with (Err f) left = Err (read_refusal f)
 
 -- a verdict without its value
-abbrev pub done : {A : Type 0} → Verdict A → Verdict (Unit {0})
-done (Ok a) = Ok tt
-done (Err f) = Err f
+abbrev pub bare_verdict : {A : Type 0} → Verdict A → Verdict (Unit {0})
+bare_verdict (Ok a) = Ok tt
+bare_verdict (Err f) = Err f

@@ -1,44 +1,46 @@
 //! The refusals of reading a file.
 ghost use Rattle.std.specs.Prelude.{◌≡◌};
-ghost use Rattle.climb.specs.Refusals.{dated, refusal_of};
+ghost use Rattle.climb.specs.Refusals.{layout_read_fault, file_read_fault, read_refusal};
 
-use layout::FileFault;
+use file_reader::FileFault;
+use layout::LayoutFault;
 
-/// Why a player did not read a file.
+/// Why a player did not read a file, in the order of the checks.
 #[derive(Clone, Copy, PartialEq, Eq, Debug)]
 pub enum ReadFault {
     /// Fewer than 512 working bytes were lent.
     ShortWorking,
     /// The bytes that were lent as the ring are not 288.
     NotARing,
+    /// The bytes are not a rekey file of this wrap.
+    Layout(LayoutFault),
     /// The file's epoch is below the wanted one.
-    TooLow {
-        wanted: u32,
-    },
+    TooLow { wanted: u32 },
     /// The file's epoch is above the wanted one.
-    TooHigh {
-        wanted: u32,
-    },
-    /// The file was refused, or a wrap of it; the file's epoch, if it has one.
-    File {
-        epoch: Option<u32>,
-        fault: FileFault,
-    },
+    TooHigh { wanted: u32 },
+    /// A wrap of the file of that epoch was not opened.
+    File { epoch: u32, fault: FileFault },
     /// No entry of the ring opens a wrap of this listed node.
-    ShutOut {
-        node: u8,
-    },
+    ShutOut { node: u8 },
 }
 
-/// A file's refusal beside the file's epoch, if it has one.
+/// A fault of an opening beside the file's epoch.
 #[derive(Clone, Copy)]
 pub struct DatedFault {
-    pub epoch: Option<u32>,
+    pub epoch: u32,
     pub fault: FileFault,
 }
 
+impl From<LayoutFault> for ReadFault {
+    ghost from_gives = { λ f r. r ≡ layout_read_fault f };
+
+    fn from(f: LayoutFault) -> ReadFault {
+        ReadFault::Layout(f)
+    }
+}
+
 impl From<DatedFault> for ReadFault {
-    ghost from_gives = { λ f r. r ≡ dated f };
+    ghost from_gives = { λ f r. r ≡ file_read_fault f };
 
     fn from(f: DatedFault) -> ReadFault {
         ReadFault::File {
@@ -51,11 +53,12 @@ impl From<DatedFault> for ReadFault {
 impl ReadFault {
     /// The number of this refusal.
     pub fn number(&self) -> u8
-        ensures { result ≡ (refusal_of self.now).number }
+        ensures { result ≡ (read_refusal self.now).number }
     {
         match self {
             ReadFault::ShortWorking => 9,
             ReadFault::NotARing => 14,
+            ReadFault::Layout(fault) => fault.number(),
             ReadFault::TooLow { .. } => 16,
             ReadFault::TooHigh { .. } => 17,
             ReadFault::File { fault, .. } => fault.number(),

@@ -5,5 +5,5 @@ mod climb;
 mod fault;
 mod search;
 
-pub use climb::follow;
+pub use climb::WayUp;
 pub use fault::{DatedFault, ReadFault};

@@ -5,7 +5,7 @@ use Rattle.std.specs.List.{fold}
 use Rattle.std.specs.Simd.{first_chunks}
 use Rattle.byte_strings.specs.Strings.{xors}
 use Rattle.byte_strings.proofs.Chunks.{chunks_front}
-use Rattle.cmac.specs.Cmac.{zeros, m_last, before_last, chain, cmac}
+use Rattle.cmac.specs.Cmac.{zeros, m_last, blocks_before_last, chain, cmac}
 
 module _ (e : List ℕ → List ℕ) where
   -- X after so many blocks of the message
@@ -22,12 +22,13 @@ module _ (e : List ℕ → List ℕ) where
       ∙ chain_folds n y (drop 16 m)
 
   -- the blocks that stand in the part of the message before the last
-  pub cmac_folds : (m : List ℕ) → let n = before_last (length m) in
+  pub cmac_folds : (m : List ℕ) → let n = blocks_before_last (length m) in
       e (xors (m_last e (drop (16 * n) m)) (fold (λ x b. e (xors x b)) zeros (first_chunks 16 (length (take (16 * n) m) / 16) (take (16 * n) m)))) ≡ cmac e m
   unfolding cmac absorbed
   cmac_folds m =
-      let n = before_last (length m) in
-      let many : length (take (16 * before_last (length m)) m) / 16 ≡ before_last (length m) = omega (arith, length-take (16 * before_last (length m)) m) in
+      let n = blocks_before_last (length m) in
+      let many : length (take (16 * blocks_before_last (length m)) m) / 16 ≡ blocks_before_last (length m) =
+      omega (arith, length-take (16 * blocks_before_last (length m)) m) in
       ap (λ (bs : List (List ℕ)). e (xors (m_last e (drop (16 * n) m)) (absorbed zeros bs)))
       (ap (λ (k : ℕ). first_chunks 16 k (take (16 * n) m)) many ∙ chunks_front 16 n (16 * n) m (omega arith))
       ∙ chain_folds n zeros m

@@ -1,2 +1,3 @@
 pub mod Blocks
 pub mod Cmac
+pub use Rattle.aes.specs.Keyed

@@ -1,16 +1,16 @@
-//! AES-CMAC, RFC 4493.
+//! AES-CMAC of RFC 4493, under a lent key schedule.
 #![tactic(auto)]
 
 ghost use Rattle.std.specs.Prelude.{◌≡◌, ◌<◌, ◌≤◌, length, slice_set};
 ghost use Rattle.std.specs.List.{fold};
-ghost use Rattle.aes.specs.Keyed.{enciphered};
+ghost use Rattle.aes.specs.Keyed.{cipher_of};
 ghost use Rattle.byte_strings.specs.Strings.{xors};
 ghost use Rattle.cmac.specs.Blocks.{number_of, bytes_of, times_x, dbl};
-ghost use Rattle.cmac.specs.Cmac.{zeros, padding, whole, m_last, before_last};
-ghost use Rattle.cmac.specs.Cmac.{cmac as tag_of};
+ghost use Rattle.cmac.specs.Cmac.{zeros, padding, is_whole, m_last, blocks_before_last};
+ghost use Rattle.cmac.specs.Cmac.{cmac as cmac_of};
 
 use aes::Schedule;
-use byte_strings::{part_of, put, xored};
+use byte_strings::{part_of, put, xor_of};
 
 /// A block as a number, its first byte highest.
 pub fn number_of(b: [u8; 16]) -> u128
@@ -26,14 +26,14 @@ pub fn block_of(n: u128) -> [u8; 16]
     n.to_be_bytes()
 }
 
-/// No branch on the bit that falls out: it may come from a key.
+// No branch on the bit that falls out: it may come from a key.
 fn times_x(n: u128) -> u128
     ensures { result ≡ times_x n }
 {
     (n << 1) ^ ((n >> 127) * 0x87)
 }
 
-/// The block times x in the field of 2^128 elements.
+/// RFC 5297, 2.3, dbl: the block times x in the field of 2^128 elements.
 #[tactic(auto, unfolding(crate::specs::Blocks::dbl))]
 pub fn double(b: [u8; 16]) -> [u8; 16]
     ensures { result ≡ dbl b }
@@ -41,7 +41,7 @@ pub fn double(b: [u8; 16]) -> [u8; 16]
     block_of(times_x(number_of(b)))
 }
 
-/// A block of zeros but for the first bit of the byte at `at`.
+// A block of zeros but for the first bit of the byte at `at`.
 fn one_bit(at: usize) -> [u8; 16]
     requires { at < 16 }
     ensures { result ≡ slice_set zeros at 0x80 }
@@ -51,7 +51,7 @@ fn one_bit(at: usize) -> [u8; 16]
     out
 }
 
-/// The padding of a block that is not whole.
+/// RFC 4493, 2.4, padding: the bytes of a block that is not whole, filled up to 16.
 pub fn pad(m: &[u8]) -> [u8; 16]
     requires { length m.now < 16 }
     ensures { result ≡ padding m.now }
@@ -61,49 +61,51 @@ pub fn pad(m: &[u8]) -> [u8; 16]
     out
 }
 
+// Is the last block whole?
 fn is_whole(m: &[u8]) -> bool
-    ensures { result ≡ whole m.now }
+    ensures { result ≡ is_whole m.now }
 {
     m.len() == 16
 }
 
-/// M_last: the last block with its subkey, K1 if it is whole and K2 if it is padded.
+// RFC 4493, 2.4, M_last: the last block with its subkey, K1 if it is whole and K2 if it is padded.
 #[tactic(auto, unfolding(crate::specs::Cmac::m_last))]
 fn m_last(w: Schedule<'_>, m: &[u8]) -> [u8; 16]
     requires { length m.now ≤ 16 }
-    ensures { result ≡ m_last (enciphered w.entry) m.now }
+    ensures { result ≡ m_last (cipher_of w.entry) m.now }
 {
     let k1 = double(w.encipher([0; 16]));
     if is_whole(m) {
-        xored(part_of::<16>(m, 0), k1)
+        xor_of(part_of::<16>(m, 0), k1)
     } else {
-        xored(pad(m), double(k1))
+        xor_of(pad(m), double(k1))
     }
 }
 
+// How many blocks of a message of `len` bytes come before its last.
 fn blocks_before_last(len: usize) -> usize
-    ensures { result ≡ before_last len }
+    ensures { result ≡ blocks_before_last len }
 {
     len.saturating_sub(1) / 16
 }
 
-// X after so many blocks of the message.
+// RFC 4493, 2.4, step 6: X after these blocks.
 fn absorb(w: Schedule<'_>, blocks: &[[u8; 16]]) -> [u8; 16]
-    ensures { result ≡ fold (λ x m. enciphered w.entry (xors x m)) zeros blocks.now }
+    ensures { result ≡ fold (λ x m. cipher_of w.entry (xors x m)) zeros blocks.now }
 {
     blocks.iter().copied().fold(
         [0; 16],
         |x, m| -> [u8; 16]
-            ensures { result ≡ enciphered w.entry (xors x m) }
-        { w.encipher(xored(x, m)) },
+            ensures { result ≡ cipher_of w.entry (xors x m) }
+        { w.encipher(xor_of(x, m)) },
     )
 }
 
-/// The tag of the message `m`, under the schedule `w`.
+/// RFC 4493, 2.4, AES-CMAC: the tag, of 16 bytes, of the message `m` of any length.
 pub fn mac(w: Schedule<'_>, m: &[u8]) -> [u8; 16]
-    ensures { result ≡ tag_of (enciphered w.entry) m.now }
+    ensures { result ≡ cmac_of (cipher_of w.entry) m.now }
 {
     let (before, last) = m.split_at(16 * blocks_before_last(m.len()));
     let x = absorb(w, before.as_chunks::<16>().0);
-    w.encipher(xored(m_last(w, last), x))
+    w.encipher(xor_of(m_last(w, last), x))
 }

@@ -1,1 +1,3 @@
 pub mod Notes
+pub mod Gathering
+pub mod Dealing

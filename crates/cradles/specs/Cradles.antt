@@ -1,33 +1,42 @@
 -- A cradle: who is in it, and what is noted for it. Scanners go by their serials.
-use Rattle.std.specs.Prelude.{ℕ, Bool, true, false, Some, None, Option}
+use Rattle.std.specs.Prelude.{ℕ, ◌≤◌, Bool, true, false, ◌&&◌, Some, None, Option, nat_le}
+use Rattle.tree.specs.declared.limits.TheConstants.{CRADLES}
 use Rattle.tree.specs.declared.types.Code.{Code}
 use Rattle.tree.specs.declared.types.Code.TheVariants as codes
 use Rattle.cradles.specs.declared.Cradle.{Cradle}
 use Rattle.cradles.specs.declared.Cradle.TheVariants.{Empty, Stays, Arrives, Departs, Swaps}
 
+-- the number of a cradle, 1 to 128
+abbrev pub IsCradle : ℕ → Type 0
+IsCradle c = (1 ≤ c) × (c ≤ CRADLES)
+
+-- the same as a test
+abbrev pub is_cradle : ℕ → Bool
+is_cradle c = nat_le 1 c && nat_le c CRADLES
+
 -- its code in the row of the next change
-abbrev pub code_of : Cradle → Code
-code_of Empty = codes.Empty
-code_of (Stays x) = codes.Stays
-code_of (Arrives x) = codes.Arrives
-code_of (Departs x) = codes.Departs
-code_of (Swaps x y) = codes.Swaps
+abbrev pub cradle_code : Cradle → Code
+cradle_code Empty = codes.Empty
+cradle_code (Stays x) = codes.Stays
+cradle_code (Arrives x) = codes.Arrives
+cradle_code (Departs x) = codes.Departs
+cradle_code (Swaps x y) = codes.Swaps
 
 -- who is in it now
-abbrev pub seated : Cradle → Option ℕ
-seated Empty = None
-seated (Stays x) = Some x
-seated (Arrives x) = None
-seated (Departs x) = Some x
-seated (Swaps x y) = Some x
+abbrev pub occupant : Cradle → Option ℕ
+occupant Empty = None
+occupant (Stays x) = Some x
+occupant (Arrives x) = None
+occupant (Departs x) = Some x
+occupant (Swaps x y) = Some x
 
 -- whose arrival is noted
-abbrev pub awaited : Cradle → Option ℕ
-awaited Empty = None
-awaited (Stays x) = None
-awaited (Arrives x) = Some x
-awaited (Departs x) = None
-awaited (Swaps x y) = Some y
+abbrev pub noted_arrival : Cradle → Option ℕ
+noted_arrival Empty = None
+noted_arrival (Stays x) = None
+noted_arrival (Arrives x) = Some x
+noted_arrival (Departs x) = None
+noted_arrival (Swaps x y) = Some y
 
 -- who holds it: seated without a noted departure, or noted to arrive
 abbrev pub holder : Cradle → Option ℕ
@@ -38,12 +47,12 @@ holder (Departs x) = None
 holder (Swaps x y) = Some y
 
 -- a departure is noted
-abbrev pub departs : Cradle → Bool
-departs Empty = false
-departs (Stays x) = false
-departs (Arrives x) = false
-departs (Departs x) = true
-departs (Swaps x y) = true
+abbrev pub has_departure : Cradle → Bool
+has_departure Empty = false
+has_departure (Stays x) = false
+has_departure (Arrives x) = false
+has_departure (Departs x) = true
+has_departure (Swaps x y) = true
 
 -- with an arrival noted; nothing is noted where the cradle has a holder
 abbrev pub with_arrival : Cradle → ℕ → Cradle
@@ -70,9 +79,9 @@ without_notes (Departs x) = Stays x
 without_notes (Swaps x y) = Stays x
 
 -- with the notes carried out: the departure, then the arrival
-abbrev pub carried_out : Cradle → Cradle
-carried_out Empty = Empty
-carried_out (Stays x) = Stays x
-carried_out (Arrives x) = Stays x
-carried_out (Departs x) = Empty
-carried_out (Swaps x y) = Stays y
+abbrev pub after_change : Cradle → Cradle
+after_change Empty = Empty
+after_change (Stays x) = Stays x
+after_change (Arrives x) = Stays x
+after_change (Departs x) = Empty
+after_change (Swaps x y) = Stays y

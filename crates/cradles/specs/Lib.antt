@@ -1,1 +1,3 @@
 pub mod Cradles
+pub mod Draws
+pub use Rattle.tree.specs.Rows

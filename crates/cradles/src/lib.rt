@@ -1,9 +1,15 @@
-//! A cradle of a site: who is in it, and what is noted for it.
+//! The cradles of a site: who is in each, what is noted for it, and what a publishing draws for them.
 #![tactic(auto)]
 
 ghost use Rattle.std.specs.Prelude.{◌≡◌};
-ghost use Rattle.cradles.specs.Cradles.{code_of, seated, awaited, holder, departs, with_arrival, with_departure, without_notes, carried_out};
+ghost use Rattle.cradles.specs.Cradles.{cradle_code, occupant, holder, has_departure, with_arrival, with_departure, without_notes, after_change};
 
+mod draws;
+mod nodes;
+mod rows;
+
+pub use draws::Draws;
+pub use rows::{after_change, row, without_notes};
 use tree::Code;
 
 /// A cradle. Scanners go by their serials.
@@ -24,7 +30,7 @@ pub enum Cradle {
 impl Cradle {
     /// Its code in the row of the next change.
     pub fn code(self) -> Code
-        ensures { result ≡ code_of self }
+        ensures { result ≡ cradle_code self }
     {
         match self {
             Cradle::Empty => Code::Empty,
@@ -36,24 +42,13 @@ impl Cradle {
     }
 
     /// Who is in it now.
-    pub fn seated(self) -> Option<u16>
-        ensures { result ≡ seated self }
+    pub fn occupant(self) -> Option<u16>
+        ensures { result ≡ occupant self }
     {
         match self {
             Cradle::Empty | Cradle::Arrives(_) => None,
             Cradle::Stays(serial) | Cradle::Departs(serial) => Some(serial),
             Cradle::Swaps { departs, .. } => Some(departs),
-        }
-    }
-
-    /// Whose arrival is noted.
-    pub fn awaited(self) -> Option<u16>
-        ensures { result ≡ awaited self }
-    {
-        match self {
-            Cradle::Empty | Cradle::Stays(_) | Cradle::Departs(_) => None,
-            Cradle::Arrives(serial) => Some(serial),
-            Cradle::Swaps { arrives, .. } => Some(arrives),
         }
     }
 
@@ -69,8 +64,8 @@ impl Cradle {
     }
 
     /// Whether a departure is noted.
-    pub fn departs(self) -> bool
-        ensures { result ≡ departs self }
+    pub fn has_departure(self) -> bool
+        ensures { result ≡ has_departure self }
     {
         matches!(self, Cradle::Departs(_) | Cradle::Swaps { .. })
     }
@@ -111,8 +106,8 @@ impl Cradle {
     }
 
     /// With its notes carried out.
-    pub fn carried_out(self) -> Cradle
-        ensures { result ≡ carried_out self }
+    pub fn after_change(self) -> Cradle
+        ensures { result ≡ after_change self }
     {
         match self {
             Cradle::Empty | Cradle::Departs(_) => Cradle::Empty,

@@ -1,19 +1,18 @@
 -- The two boxes undo each other, and the inverse is one: each by a test at 256 numbers.
 use mathlib.Core.Path.{◌≡◌, refl}
 use mathlib.Core.Bool.{cond}
-use Prim.Native.Nat.{ℕ, ◌<◌, ◌/◌, ◌%◌}
-use lib.Bits.{bit_xor}
+use Prim.Native.Nat.{ℕ, ◌<◌}
 use lib.Dec.{eqb}
-use Rattle.field.specs.Field.{x_times, scaled, sum_of_bits, product, even_power, inverse, rotl, affine, inv_affine, s_box, inv_s_box}
-use Rattle.field.specs.Laws.{BoxExamples}
+use Rattle.field.specs.Field.{sum_of_bits, product, even_power, inverse, left_rotation, affine_map, inv_affine_map, s_box, inv_s_box}
+use Rattle.field.specs.Laws.{BoxExamplesHold}
 use Rattle.field.proofs.Tests.{agree, stays}
 
 pub inv_s_box_undoes : (b : ℕ) → b < 256 → inv_s_box (s_box b) ≡ b
-unfolding sum_of_bits product even_power inverse rotl affine inv_affine s_box inv_s_box
+unfolding sum_of_bits product even_power inverse left_rotation affine_map inv_affine_map s_box inv_s_box
 inv_s_box_undoes = agree (λ b. inv_s_box (s_box b)) (λ b. b) tt
 
 pub s_box_undoes : (b : ℕ) → b < 256 → s_box (inv_s_box b) ≡ b
-unfolding sum_of_bits product even_power inverse rotl affine inv_affine s_box inv_s_box
+unfolding sum_of_bits product even_power inverse left_rotation affine_map inv_affine_map s_box inv_s_box
 s_box_undoes = agree (λ b. s_box (inv_s_box b)) (λ b. b) tt
 
 pub inverse_inverts : (b : ℕ) → b < 256 → product b (inverse b) ≡ cond (eqb b 0) 0 1
@@ -21,13 +20,13 @@ unfolding sum_of_bits product even_power inverse
 inverse_inverts = agree (λ b. product b (inverse b)) (λ b. cond (eqb b 0) 0 1) tt
 
 pub s_box_byte : (b : ℕ) → b < 256 → s_box b < 256
-unfolding sum_of_bits product even_power inverse rotl affine s_box
+unfolding sum_of_bits product even_power inverse left_rotation affine_map s_box
 s_box_byte = stays s_box tt
 
 pub inv_s_box_byte : (b : ℕ) → b < 256 → inv_s_box b < 256
-unfolding sum_of_bits product even_power inverse rotl inv_affine inv_s_box
+unfolding sum_of_bits product even_power inverse left_rotation inv_affine_map inv_s_box
 inv_s_box_byte = stays inv_s_box tt
 
-pub box_examples : BoxExamples
-unfolding sum_of_bits product even_power inverse rotl affine s_box
+pub box_examples : BoxExamplesHold
+unfolding sum_of_bits product even_power inverse left_rotation affine_map s_box
 box_examples = (refl, refl)

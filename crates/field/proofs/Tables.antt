@@ -1,39 +1,64 @@
--- The rule at each entry of the tables, by computed tests over each.
+-- What a look-up gives, of any table that a computed test finds to hold the right values.
 use mathlib.Core.Path.{◌≡◌}
+use mathlib.Core.Bool.{Bool}
 use mathlib.Core.List.{List, [], ◌∷◌}
 use Prim.Native.Nat.{ℕ, ◌<◌}
 use lib.Dec.{T, eqb, eqb→eq}
 use lib.ListN.{length, get_or}
 use Rattle.std.specs.Int.{byte_at, to_le_bytes, w32}
-use Rattle.field.specs.Field.{sum_of_bits, product, even_power, inverse, rotl, affine, inv_affine, s_box, inv_s_box, mix_share, inv_mix_share}
-use Rattle.field.specs.Tables.{s_box_table, inv_s_box_table, shares_table, inv_shares_table}
-use Rattle.field.proofs.Tests.{every, at}
+use Rattle.field.specs.Field.{s_box, inv_s_box, mix_share, inv_mix_share, shares_of}
+use Rattle.field.specs.declared.s_box.TheConstants.{SBOX}
+use Rattle.field.specs.declared.inv_s_box.TheConstants.{INV_SBOX}
+use Rattle.field.specs.declared.shares.TheConstants.{SHARES}
+use Rattle.field.specs.declared.inv_shares.TheConstants.{INV_SHARES}
+use Rattle.field.proofs.Tests.{both_hold, both_left, both_right, holds_at_entries, holds_at_entry}
 
--- a table that holds f of each of its places
-entry : (f : ℕ → ℕ) (table : List ℕ) → T (every (λ k x. eqb x (f k)) 0 table) → (b : ℕ) → b < length table → get_or table b 0 ≡ f b
-entry f table t b h = eqb→eq (get_or table b 0) (f b) (at (λ k x. eqb x (f k)) table t b h)
+-- does the table hold f of each of its places?
+abbrev pub holds_values : (ℕ → ℕ) → List ℕ → Bool
+holds_values f table = holds_at_entries (λ k x. eqb x (f k)) 0 table
 
-pub s_box_entry : (b : ℕ) → b < 256 → get_or s_box_table b 0 ≡ s_box b
-unfolding sum_of_bits product even_power inverse rotl affine s_box
-s_box_entry = entry s_box s_box_table tt
+entry : (f : ℕ → ℕ) (table : List ℕ) → T (holds_values f table) → (b : ℕ) → b < length table → get_or table b 0 ≡ f b
+entry f table t b h = eqb→eq (get_or table b 0) (f b) (holds_at_entry (λ k x. eqb x (f k)) table t b h)
 
-pub inv_s_box_entry : (b : ℕ) → b < 256 → get_or inv_s_box_table b 0 ≡ inv_s_box b
-unfolding sum_of_bits product even_power inverse rotl inv_affine inv_s_box
-inv_s_box_entry = entry inv_s_box inv_s_box_table tt
+pub s_box_entry : T (holds_values s_box SBOX) → (b : ℕ) → b < 256 → get_or SBOX b 0 ≡ s_box b
+s_box_entry = entry s_box SBOX
 
--- the four bytes of each entry
-shares : (f : ℕ → ℕ → ℕ) (table : List ℕ) → T (every (λ k x. eqb (byte_at 0 x) (f 0 k)) 0 table) → T (every (λ k x. eqb (byte_at 1 x) (f 1 k)) 0 table)
-    → T (every (λ k x. eqb (byte_at 2 x) (f 2 k)) 0 table) → T (every (λ k x. eqb (byte_at 3 x) (f 3 k)) 0 table)
-    → (b : ℕ) → b < length table → to_le_bytes w32 (get_or table b 0) ≡ f 0 b ∷ f 1 b ∷ f 2 b ∷ f 3 b ∷ []
-shares f table t0 t1 t2 t3 b h = λ i. byte 0 t0 i ∷ byte 1 t1 i ∷ byte 2 t2 i ∷ byte 3 t3 i ∷ []
+pub inv_s_box_entry : T (holds_values inv_s_box INV_SBOX) → (b : ℕ) → b < 256 → get_or INV_SBOX b 0 ≡ inv_s_box b
+inv_s_box_entry = entry inv_s_box INV_SBOX
+
+-- does each word of the table hold in its byte n the share n of its place?
+abbrev pub holds_byte : (ℕ → ℕ → ℕ) → ℕ → List ℕ → Bool
+holds_byte share n table = holds_at_entries (λ k x. eqb (byte_at n x) (share n k)) 0 table
+
+-- in its two low bytes the first two shares?
+abbrev pub holds_low : (ℕ → ℕ → ℕ) → List ℕ → Bool
+holds_low share table = both_hold (holds_byte share 0 table) (holds_byte share 1 table)
+
+-- in its two high bytes the last two?
+abbrev pub holds_high : (ℕ → ℕ → ℕ) → List ℕ → Bool
+holds_high share table = both_hold (holds_byte share 2 table) (holds_byte share 3 table)
+
+-- and in its four bytes the four shares?
+abbrev pub holds_shares : (ℕ → ℕ → ℕ) → List ℕ → Bool
+holds_shares share table = both_hold (holds_low share table) (holds_high share table)
+
+shares : (share : ℕ → ℕ → ℕ) (table : List ℕ) → T (holds_shares share table) → (b : ℕ) → b < length table
+    → to_le_bytes w32 (get_or table b 0) ≡ shares_of share b
+shares share table t b h =
+    let low : T (holds_low share table) = both_left (holds_low share table) (holds_high share table) t in
+    let high : T (holds_high share table) = both_right (holds_low share table) (holds_high share table) t in
+    let b0 = byte 0 (both_left (holds_byte share 0 table) (holds_byte share 1 table) low) in
+    let b1 = byte 1 (both_right (holds_byte share 0 table) (holds_byte share 1 table) low) in
+    let b2 = byte 2 (both_left (holds_byte share 2 table) (holds_byte share 3 table) high) in
+    let b3 = byte 3 (both_right (holds_byte share 2 table) (holds_byte share 3 table) high) in
+    λ i. b0 i ∷ b1 i ∷ b2 i ∷ b3 i ∷ []
   where
-    byte : (n : ℕ) → T (every (λ k x. eqb (byte_at n x) (f n k)) 0 table) → byte_at n (get_or table b 0) ≡ f n b
-    byte n t = eqb→eq (byte_at n (get_or table b 0)) (f n b) (at (λ k x. eqb (byte_at n x) (f n k)) table t b h)
+    byte : (n : ℕ) → T (holds_byte share n table) → byte_at n (get_or table b 0) ≡ share n b
+    byte n p = eqb→eq (byte_at n (get_or table b 0)) (share n b) (holds_at_entry (λ k x. eqb (byte_at n x) (share n k)) table p b h)
 
-pub shares_entry : (b : ℕ) → b < 256 → to_le_bytes w32 (get_or shares_table b 0) ≡ mix_share 0 (s_box b) ∷ mix_share 1 (s_box b) ∷ mix_share 2 (s_box b) ∷ mix_share 3 (s_box b) ∷ []
-unfolding sum_of_bits product even_power inverse rotl affine s_box
-shares_entry = shares (λ i b. mix_share i (s_box b)) shares_table tt tt tt tt
+pub shares_entry : T (holds_shares (λ i b. mix_share i (s_box b)) SHARES) → (b : ℕ) → b < 256
+    → to_le_bytes w32 (get_or SHARES b 0) ≡ shares_of (λ i b. mix_share i (s_box b)) b
+shares_entry = shares (λ i b. mix_share i (s_box b)) SHARES
 
-pub inv_shares_entry : (b : ℕ) → b < 256 → to_le_bytes w32 (get_or inv_shares_table b 0) ≡ inv_mix_share 0 b ∷ inv_mix_share 1 b ∷ inv_mix_share 2 b ∷ inv_mix_share 3 b ∷ []
-unfolding sum_of_bits product
-inv_shares_entry = shares inv_mix_share inv_shares_table tt tt tt tt
+pub inv_shares_entry : T (holds_shares inv_mix_share INV_SHARES) → (b : ℕ) → b < 256 → to_le_bytes w32 (get_or INV_SHARES b 0) ≡ shares_of inv_mix_share b
+inv_shares_entry = shares inv_mix_share INV_SHARES

@@ -1,6 +1,6 @@
 //! The table of the inverse S-box.
-ghost use Rattle.std.specs.Prelude.{◌≡◌, get_or};
-ghost use Rattle.field.specs.Tables.{inv_s_box_table};
+ghost use Rattle.std.specs.Prelude.{◌≡◌};
+ghost use Rattle.field.specs.Field.{inv_s_box};
 
 const INV_SBOX: [u8; 256] = [
     0x52, 0x09, 0x6a, 0xd5, 0x30, 0x36, 0xa5, 0x38, 0xbf, 0x40, 0xa3, 0x9e, 0x81, 0xf3, 0xd7, 0xfb,
@@ -21,9 +21,10 @@ const INV_SBOX: [u8; 256] = [
     0x17, 0x2b, 0x04, 0x7e, 0xba, 0x77, 0xd6, 0x26, 0xe1, 0x69, 0x14, 0x63, 0x55, 0x21, 0x0c, 0x7d,
 ];
 
-// The entry of a byte. One look-up for both tables would be no shorter, and a wrong entry would not be refused here.
+// The entry of a byte: the test of the whole table is computed here.
+#[tactic(auto, using(crate::proofs::Tables::inv_s_box_entry), unfolding(crate::specs::Field::sum_of_bits, crate::specs::Field::product, crate::specs::Field::even_power, crate::specs::Field::inverse, crate::specs::Field::left_rotation, crate::specs::Field::inv_affine_map, crate::specs::Field::inv_s_box))]
 pub(crate) fn inv_s_box_entry(b: u8) -> u8
-    ensures { result ≡ get_or inv_s_box_table b 0 }
+    ensures { result ≡ inv_s_box b }
 {
     INV_SBOX[b as usize]
 }

@@ -1,6 +1,7 @@
-//! The table of what a byte gives to its column in InvMixColumns.
-ghost use Rattle.std.specs.Prelude.{◌≡◌, get_or};
-ghost use Rattle.field.specs.Tables.{inv_shares_table};
+//! The table of what a byte gives to its column in INVMIXCOLUMNS.
+ghost use Rattle.std.specs.Prelude.{◌≡◌};
+ghost use Rattle.std.specs.Int.{to_le_bytes, w32};
+ghost use Rattle.field.specs.Field.{inv_mix_share, shares_of};
 
 const INV_SHARES: [u32; 256] = [
     0x00000000, 0x0b0d090e, 0x161a121c, 0x1d171b12, 0x2c342438, 0x27392d36, 0x3a2e3624, 0x31233f2a,
@@ -37,9 +38,10 @@ const INV_SHARES: [u32; 256] = [
     0x92b479a7, 0x99b970a9, 0x84ae6bbb, 0x8fa362b5, 0xbe805d9f, 0xb58d5491, 0xa89a4f83, 0xa397468d,
 ];
 
-// The entry of a byte.
+// The entry of a byte: the test of the whole table is computed here.
+#[tactic(auto, using(crate::proofs::Tables::inv_shares_entry), unfolding(crate::specs::Field::sum_of_bits, crate::specs::Field::product))]
 pub(crate) fn inv_shares_entry(b: u8) -> u32
-    ensures { result ≡ get_or inv_shares_table b 0 }
+    ensures { to_le_bytes w32 result ≡ shares_of inv_mix_share b }
 {
     INV_SHARES[b as usize]
 }

@@ -1,6 +1,6 @@
 //! The table of the S-box.
-ghost use Rattle.std.specs.Prelude.{◌≡◌, get_or};
-ghost use Rattle.field.specs.Tables.{s_box_table};
+ghost use Rattle.std.specs.Prelude.{◌≡◌};
+ghost use Rattle.field.specs.Field.{s_box};
 
 const SBOX: [u8; 256] = [
     0x63, 0x7c, 0x77, 0x7b, 0xf2, 0x6b, 0x6f, 0xc5, 0x30, 0x01, 0x67, 0x2b, 0xfe, 0xd7, 0xab, 0x76,
@@ -21,9 +21,10 @@ const SBOX: [u8; 256] = [
     0x8c, 0xa1, 0x89, 0x0d, 0xbf, 0xe6, 0x42, 0x68, 0x41, 0x99, 0x2d, 0x0f, 0xb0, 0x54, 0xbb, 0x16,
 ];
 
-// The entry of a byte. One look-up for both tables would be no shorter, and a wrong entry would not be refused here.
+// The entry of a byte: the test of the whole table is computed here.
+#[tactic(auto, using(crate::proofs::Tables::s_box_entry), unfolding(crate::specs::Field::sum_of_bits, crate::specs::Field::product, crate::specs::Field::even_power, crate::specs::Field::inverse, crate::specs::Field::left_rotation, crate::specs::Field::affine_map, crate::specs::Field::s_box))]
 pub(crate) fn s_box_entry(b: u8) -> u8
-    ensures { result ≡ get_or s_box_table b 0 }
+    ensures { result ≡ s_box b }
 {
     SBOX[b as usize]
 }

@@ -1,6 +1,7 @@
-//! The table of what a byte gives to its column in MixColumns, through the S-box.
-ghost use Rattle.std.specs.Prelude.{◌≡◌, get_or};
-ghost use Rattle.field.specs.Tables.{shares_table};
+//! The table of what a byte gives to its column in MIXCOLUMNS, after the S-box.
+ghost use Rattle.std.specs.Prelude.{◌≡◌};
+ghost use Rattle.std.specs.Int.{to_le_bytes, w32};
+ghost use Rattle.field.specs.Field.{s_box, mix_share, shares_of};
 
 const SHARES: [u32; 256] = [
     0xa56363c6, 0x847c7cf8, 0x997777ee, 0x8d7b7bf6, 0x0df2f2ff, 0xbd6b6bd6, 0xb16f6fde, 0x54c5c591,
@@ -37,9 +38,10 @@ const SHARES: [u32; 256] = [
     0xc3414182, 0xb0999929, 0x772d2d5a, 0x110f0f1e, 0xcbb0b07b, 0xfc5454a8, 0xd6bbbb6d, 0x3a16162c,
 ];
 
-// The entry of a byte.
+// The entry of a byte: the test of the whole table is computed here.
+#[tactic(auto, using(crate::proofs::Tables::shares_entry), unfolding(crate::specs::Field::sum_of_bits, crate::specs::Field::product, crate::specs::Field::even_power, crate::specs::Field::inverse, crate::specs::Field::left_rotation, crate::specs::Field::affine_map, crate::specs::Field::s_box))]
 pub(crate) fn shares_entry(b: u8) -> u32
-    ensures { result ≡ get_or shares_table b 0 }
+    ensures { to_le_bytes w32 result ≡ shares_of (λ i b. mix_share i (s_box b)) b }
 {
     SHARES[b as usize]
 }

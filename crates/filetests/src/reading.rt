@@ -1,13 +1,13 @@
 //! The reader: each field spoilt, each place at which a file may be cut, the opening of its wraps.
 use crate::sample::KIND_1;
+use file_reader::{FileFault, RekeyFile};
 use kw::KeyWrap;
-use layout::{FileFault, check};
-use reader::RekeyFile;
+use layout::{LayoutFault, check};
 use wrap::WrapFault;
 
 #[test]
 fn each_field_is_checked(rt: HostRuntime) {
-    // The place of a byte, what it is changed to, and the place that is told.
+    // The place of a byte, what it is changed to, and the place that is reported.
     let spoilt = [
         (0, 0x4A, 0),
         (1, 2, 1),
@@ -41,24 +41,20 @@ fn each_field_is_checked(rt: HostRuntime) {
         assert!(rt; at < 150);
         file[at] = byte;
         let fault = check(&KeyWrap, &file).err();
-        assert_eq!(rt;
-            fault,
-            Some(FileFault::Layout { place }),
-            "byte {at} made {byte}"
-        );
+        assert_eq!(rt; fault, Some(LayoutFault { place }), "byte {at} made {byte}");
     }
 }
 
 #[test]
-fn a_cut_file_is_told_by_its_length(rt: HostRuntime) {
+fn a_cut_file_is_reported_by_its_length(rt: HostRuntime) {
     for len in 0..150 {
         let fault = check(&KeyWrap, &KIND_1[..len]).err();
-        assert_eq!(rt; fault, Some(FileFault::Layout { place: len }));
+        assert_eq!(rt; fault, Some(LayoutFault { place: len }));
     }
     let mut longer = [0u8; 151];
     longer[..150].copy_from_slice(&KIND_1);
     let fault = check(&KeyWrap, &longer).err();
-    assert_eq!(rt; fault, Some(FileFault::Layout { place: 150 }));
+    assert_eq!(rt; fault, Some(LayoutFault { place: 150 }));
 }
 
 #[test]

@@ -1,7 +1,7 @@
 //! One change as a file of each kind, written by Python's `cryptography` (OpenSSL) and by hand.
+use file_writer::Change;
 use keys::NodeKey;
 use tree::{Opener, Pair};
-use writer::Change;
 
 /// Epoch 5, nodes 3 and 1, and three wraps of RFC 3394: 3 under 7, 1 under 3, 1 under its own key of epoch 4. All bytes of the
 /// key that node n got in epoch e are 16 n + e.

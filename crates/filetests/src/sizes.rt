@@ -1,4 +1,5 @@
 //! The files of real plans: how long they are, and that the reader takes them.
+use file_writer::Change;
 use keys::NodeKey;
 use kw::KeyWrap;
 use layout::check;
@@ -7,7 +8,6 @@ use std::process::Abort;
 use strategies::{KeyOriented, Star};
 use tree::{Board, Code, Opener, Pair, Strategy};
 use wrap::Wrap;
-use writer::Change;
 
 fn table(made: u32, key: [u8; 32]) -> [NodeKey; 256] {
     [NodeKey { made, key }; 256]

@@ -1,8 +1,8 @@
 //! The writer, against files that another program wrote.
 use crate::sample::{KIND_1, KIND_2, change, keys_of, plan};
+use file_writer::WriteFault;
 use kw::KeyWrap;
 use siv::Siv;
-use writer::WriteFault;
 
 #[test]
 fn writes_the_bytes_and_no_more(rt: HostRuntime) {

@@ -4,6 +4,10 @@
 ghost use Rattle.std.specs.Prelude.{◌≡◌};
 ghost use Rattle.keys.specs.Names.{name_bytes, wrap_name};
 
+mod limits;
+
+pub use limits::{CARD_BYTES, LAST_EPOCH, LAST_SERIAL};
+
 /// The name of a key: its node, and the epoch in which it was made.
 #[derive(Clone, Copy, PartialEq, Eq, Debug)]
 pub struct KeyName {
@@ -12,7 +16,7 @@ pub struct KeyName {
 }
 
 impl KeyName {
-    /// The node, and the epoch with its highest byte first.
+    /// The node in one byte, the epoch in four with the highest first.
     pub fn to_bytes(self) -> [u8; 5]
         ensures { result ≡ name_bytes self }
     {
@@ -28,7 +32,16 @@ pub struct NodeKey {
     pub key: [u8; 32],
 }
 
-/// The name under which the content's key is sealed: node and epoch of the opener, node and epoch of the content.
+impl NodeKey {
+    /// A key that was never made: epoch 0, which no site has, and zeros.
+    pub const UNMADE: NodeKey = NodeKey {
+        made: 0,
+        key: [0; 32],
+    };
+}
+
+/// The name under which a content's key is sealed: node and epoch of the opener, then node and
+/// epoch of the content.
 pub fn wrap_name(opener: KeyName, content: KeyName) -> [u8; 10]
     ensures { result ≡ wrap_name opener content }
 {

@@ -1,3 +1,3 @@
-pub mod Wrapping
-pub mod Lawful
-pub mod Steps
+pub use Rattle.aes.specs.Keyed
+pub use Rattle.wrap_rules.specs.KeyWrap
+pub use Rattle.wrap_rules.specs.Meanings

@@ -2,26 +2,28 @@
 #![tactic(auto)]
 
 ghost use Rattle.std.specs.Prelude.{◌≡◌, length};
-ghost use Rattle.kw.specs.Wrapping.{key_wrap, key_unwrap};
-ghost use Rattle.aes.proofs.Permuting.{permutes};
-ghost use Rattle.kw.specs.Lawful.{wrap_sized, unwrap_wrap, unwrap_only};
-ghost use Rattle.std.proofs.Common.{lit≤};
+ghost use Rattle.wrap_rules.specs.KeyWrap.{key_wrap, key_unwrap};
+ghost use Rattle.wrap_rules.specs.Meanings.{rfc_3394};
+ghost use Rattle.wrap_rules.proofs.Lawful.{rfc_3394_lawful};
 
 use aes::Schedule;
-use wrap::{Kind, Working, Wrap};
+use wrap::{Working, Wrap};
 
 mod register;
 
 use register::{recover, start, unwrap_register, wrap_register};
 
-/// The bytes of a key schedule, which the working bytes begin with.
+/// The size of a key schedule, with which the working bytes begin, in bytes.
 const SCHEDULE: usize = 240;
 
-/// The bytes of a wrapped key.
+/// The size of a wrapped key, in bytes.
 const WRAPPED: usize = 40;
 
+/// The number that stands for this wrap in a file.
+const KIND: u8 = 1;
+
 /// Wraps `content` over `register`, and leaves the key's schedule in `w`.
-#[tactic(auto, unfolding(crate::specs::Wrapping::key_wrap))]
+#[tactic(auto, unfolding(wrap_rules::specs::KeyWrap::key_wrap))]
 fn wrap_key(key: [u8; 32], content: [u8; 32], register: &mut [u8; 40], w: &mut [u8])
     requires { length w.old ≡ 240 }
     ensures { register.new ≡ key_wrap key content }
@@ -31,7 +33,7 @@ fn wrap_key(key: [u8; 32], content: [u8; 32], register: &mut [u8; 40], w: &mut [
 }
 
 /// Unwraps `register` in its place, and leaves the key's schedule in `w`.
-#[tactic(auto, unfolding(crate::specs::Wrapping::key_unwrap))]
+#[tactic(auto, unfolding(wrap_rules::specs::KeyWrap::key_unwrap))]
 fn unwrap_key(key: [u8; 32], register: &mut [u8; 40], w: &mut [u8]) -> Option<[u8; 32]>
     requires { length w.old ≡ 240 }
     ensures { result ≡ key_unwrap key register.old }
@@ -45,26 +47,12 @@ fn unwrap_key(key: [u8; 32], register: &mut [u8; 40], w: &mut [u8]) -> Option<[u
 pub struct KeyWrap;
 
 impl Wrap for KeyWrap {
-    ghost wrap_kind = { 1 };
+    ghost meaning = { rfc_3394 };
 
-    ghost wrap_length = { 40 };
-
-    ghost sealed = { λ key name content. key_wrap key content };
-
-    ghost opened = { λ key name bytes. key_unwrap key bytes };
-
-    ghost kind_range = { (lit≤ tt, lit≤ tt) };
-
-    ghost length_range = { (lit≤ tt, lit≤ tt) };
-
-    ghost sealed_sized = { λ k n c hk hn hc. wrap_sized k (permutes k hk.1) c hc };
-
-    ghost opens_sealed = { λ k n c hk hn hc. unwrap_wrap k (permutes k hk.1) c hc };
-
-    ghost opened_was_sealed = { λ k n z c hk hn hz o. unwrap_only k (permutes k hk.1) z c hz o };
+    ghost lawful = { rfc_3394_lawful };
 
     fn kind(&self) -> u8 {
-        u8::from(Kind::Rfc3394)
+        KIND
     }
 
     fn sealed_len(&self) -> usize {

@@ -1,3 +1,3 @@
-pub mod Judged
+pub mod Parts
 pub mod Turns
 pub mod Whole

@@ -1,2 +1,6 @@
 pub mod Refusals
-pub mod Judging
+pub mod Reads
+pub use Rattle.byte_strings.specs.Numbers
+pub use Rattle.file_rules.specs.Fields
+pub use Rattle.file_rules.specs.Layout
+pub use Rattle.refusal.specs.Refusals as Verdicts

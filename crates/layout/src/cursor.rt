@@ -1,7 +1,7 @@
 //! A file that is read from its first byte on.
 ghost use Rattle.std.specs.Prelude.{◌≡◌, ◌≤◌, length};
 
-/// A file, and the place of its next field. The bytes stay whole, since faults are told by their places in the file.
+/// A file, and the place of its next field. The bytes stay whole: a fault is reported by its place in the file.
 #[derive(Drop)]
 pub(crate) struct Cursor<'a> {
     pub bytes: &'a [u8],

@@ -1,34 +1,32 @@
 //! The fields of a file, read one after the other: each is there, and right.
-ghost use Rattle.std.specs.Prelude.{◌≡◌, true, cond, [], ◌∷◌, Some, None};
-ghost use Rattle.byte_strings.specs.Strings.{part};
-ghost use Rattle.byte_strings.specs.Numbers.{byte_at, number4};
-ghost use Rattle.rekey.specs.Fields.{field};
-ghost use Rattle.rekey.specs.Layout.{between};
-ghost use Rattle.layout.specs.Judging.{judged, seen, Reads};
+ghost use Rattle.std.specs.Prelude.{◌≡◌, if◌then◌else◌, Some, None};
+ghost use Rattle.file_rules.specs.Layout.{is_between};
+ghost use Rattle.layout.specs.Reads.{value_or_fault, answer_bytes, ReadsField, is_anything, byte_here, number4_here, part_here};
 
 use crate::cursor::Cursor;
-use crate::fault::FileFault;
+use crate::fault::LayoutFault;
 use byte_strings::part_of;
 
 /// The value of a field at `place`, if it is right.
-pub(crate) fn judge<T: Copy>(value: T, right: bool, place: usize) -> Result<T, FileFault>
-    ensures { result ≡ judged (cond right None (Some place)) value }
+pub(crate) fn judge<T: Copy>(value: T, right: bool, place: usize) -> Result<T, LayoutFault>
+    ensures { result ≡ value_or_fault (if right then None else Some place) value }
 {
     if right {
         Ok(value)
     } else {
-        Err(FileFault::Layout { place })
+        Err(LayoutFault { place })
     }
 }
 
 impl<'a> Cursor<'a> {
     /// A field of `len` bytes, whatever they are.
-    pub fn part(&mut self, len: usize) -> Result<&'a [u8], FileFault>
-        ensures { Reads self.old self.new len (field self.old.at len true ∷ []) (part len self.old.at self.old.bytes.now) (seen result) }
+    pub fn part(&mut self, len: usize) -> Result<&'a [u8], LayoutFault>
+        ensures { ReadsField self.old self.new len (part_here len) is_anything
+            (answer_bytes result) }
     {
         let start = self.at;
         if self.bytes.len() - start < len {
-            return Err(FileFault::Layout {
+            return Err(LayoutFault {
                 place: self.bytes.len(),
             });
         }
@@ -37,15 +35,15 @@ impl<'a> Cursor<'a> {
     }
 
     /// A field of N bytes, whatever they are.
-    pub fn take<const N: usize>(&mut self) -> Result<[u8; N], FileFault>
-        ensures { Reads self.old self.new N (field self.old.at N true ∷ []) (part N self.old.at self.old.bytes.now) result }
+    pub fn take<const N: usize>(&mut self) -> Result<[u8; N], LayoutFault>
+        ensures { ReadsField self.old self.new N (part_here N) is_anything result }
     {
         Ok(part_of(self.part(N)?, 0))
     }
 
     /// A byte from `low` to `high`.
-    pub fn byte(&mut self, low: u8, high: u8) -> Result<u8, FileFault>
-        ensures { Reads self.old self.new 1 (field self.old.at 1 (between low high (byte_at self.old.bytes.now self.old.at)) ∷ []) (byte_at self.old.bytes.now self.old.at) result }
+    pub fn byte(&mut self, low: u8, high: u8) -> Result<u8, LayoutFault>
+        ensures { ReadsField self.old self.new 1 byte_here (is_between low high) result }
     {
         let place = self.at;
         let [value] = self.take::<1>()?;
@@ -53,8 +51,8 @@ impl<'a> Cursor<'a> {
     }
 
     /// A number of four bytes, from `low` to `high`.
-    pub fn number(&mut self, low: u32, high: u32) -> Result<u32, FileFault>
-        ensures { Reads self.old self.new 4 (field self.old.at 4 (between low high (number4 self.old.bytes.now self.old.at)) ∷ []) (number4 self.old.bytes.now self.old.at) result }
+    pub fn number(&mut self, low: u32, high: u32) -> Result<u32, LayoutFault>
+        ensures { ReadsField self.old self.new 4 number4_here (is_between low high) result }
     {
         let place = self.at;
         let value = u32::from_be_bytes(self.take()?);

@@ -1,13 +1,13 @@
 //! What the wraps of a file are checked by.
 ghost use Rattle.std.specs.Prelude.{◌≡◌};
-ghost use Rattle.rekey.specs.Layout.{listed, content_right};
+ghost use Rattle.file_rules.specs.Layout.{lists, is_valid_content};
 
 use keys::KeyName;
 use tree::is_within;
 
 /// Whether `node` is one of `nodes`.
 pub fn lists(nodes: &[u8], node: u8) -> bool
-    ensures { result ≡ listed nodes.now node }
+    ensures { result ≡ lists nodes.now node }
 {
     nodes.contains(&node)
 }
@@ -22,8 +22,8 @@ pub(crate) struct Head<'a> {
 
 impl Head<'_> {
     /// Whether a key of that name may open the new key of `content`.
-    pub fn may_open(self, opener: KeyName, content: u8) -> bool
-        ensures { result ≡ content_right self.entry.epoch self.entry.nodes.now opener content }
+    pub fn is_valid_content(self, opener: KeyName, content: u8) -> bool
+        ensures { result ≡ is_valid_content self.entry.epoch self.entry.nodes.now opener content }
     {
         lists(self.nodes, content)
             && is_within(opener.node, content)

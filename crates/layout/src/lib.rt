@@ -2,9 +2,9 @@
 #![tactic(auto)]
 
 ghost use Rattle.std.specs.Prelude.{◌≡◌, true, OnOk};
-ghost use Rattle.refusal.specs.Refusals.{told};
-ghost use Rattle.rekey.specs.Layout.{accepted};
-ghost use Rattle.layout.specs.Refusals.{refusal_of, check_verdict};
+ghost use Rattle.refusal.specs.Refusals.{verdict_of};
+ghost use Rattle.file_rules.specs.Layout.{is_rekey_file};
+ghost use Rattle.layout.specs.Refusals.{layout_refusal, check_verdict};
 
 use wrap::Wrap;
 
@@ -14,13 +14,14 @@ mod fields;
 mod head;
 mod sections;
 
-pub use fault::{FileFault, IndexedFault};
+pub use fault::LayoutFault;
 pub use head::lists;
 
 /// Checks that `bytes` are a rekey file with wraps of this kind.
-pub fn check<W: Wrap>(wrap: &W, bytes: &[u8]) -> Result<(), FileFault>
-    ensures answer { told refusal_of result ≡ check_verdict W.wrap_kind W.wrap_length bytes.now }
-    ensures accepts { OnOk result (accepted W.wrap_length bytes.now ≡ true) }
+pub fn check<W: Wrap>(wrap: &W, bytes: &[u8]) -> Result<(), LayoutFault>
+    ensures answer { verdict_of layout_refusal result ≡
+        check_verdict W.meaning.kind W.meaning.length bytes.now }
+    ensures accepts { OnOk result (is_rekey_file W.meaning.length bytes.now ≡ true) }
 {
     sections::check_file(bytes, wrap.kind(), wrap.sealed_len())
 }

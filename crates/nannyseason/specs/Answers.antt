@@ -1,12 +1,13 @@
--- What a call answers: 0 where it was done; else the number of the refusal, and its first two values, 0 where there are fewer.
-use Rattle.std.specs.Prelude.{ℕ, [], ◌∷◌, ◌++◌, get_or, Ok, Err}
-use Rattle.refusal.specs.Refusals.{Refusal, Verdict, refused}
-use Rattle.wrap.specs.Refusals as wraps
-use Rattle.layout.specs.Refusals as files
-use Rattle.climb.specs.Refusals as reads
+-- What a call answers: 0 where it was done; else the number of the refusal, and its first two
+-- values, 0 where there are fewer.
+use Rattle.std.specs.Prelude.{ℕ, [], Ok, Err, slice_index_or}
+use Rattle.refusal.specs.Refusals.{Refusal, Verdict, refusal}
+use Rattle.wrap.specs.Refusals.{wrap_refusal}
+use Rattle.file_reader.specs.Refusals.{file_refusal}
+use Rattle.climb.specs.Refusals.{read_refusal, refusal_with_epoch}
 use Rattle.player.specs.Refusals.{enrol_refusal, ring_refusal}
 use Rattle.wrap.specs.declared.fault.WrapFault.{WrapFault}
-use Rattle.layout.specs.declared.fault.FileFault.{FileFault}
+use Rattle.file_reader.specs.declared.fault.FileFault.{FileFault}
 use Rattle.climb.specs.declared.fault.ReadFault.{ReadFault}
 use Rattle.player.specs.declared.fault.EnrolFault.{EnrolFault}
 use Rattle.player.specs.declared.fault.RingFault.{RingFault}
@@ -16,32 +17,39 @@ use Rattle.nannyseason.specs.declared.answer.Answer.{Answer}
 abbrev pub answer : ℕ → ℕ → ℕ → Answer
 answer refusal first second = record { refusal = refusal; first = first; second = second }
 
--- the answer that tells a refusal
-abbrev pub refusing : Refusal → Answer
-refusing r = answer r.number (get_or r.values 0 0) (get_or r.values 1 0)
+-- the first two values of a refusal, 0 where there are fewer
+abbrev pub value_pair : Refusal → ℕ × ℕ
+value_pair r = (slice_index_or r.values 0 0, slice_index_or r.values 1 0)
 
--- the answer that tells a verdict
-abbrev pub says : {A : Type 0} → Verdict A → Answer
-says (Ok a) = answer 0 0 0
-says (Err r) = refusing r
+-- the answer that reports a refusal
+abbrev pub refusal_answer : Refusal → Answer
+refusal_answer r = answer r.number (value_pair r).0 (value_pair r).1
 
--- the library's own refusal: what no caller should hand in
+-- the answer that reports a verdict: zeros where the call was done
+abbrev pub verdict_answer : {A : Type 0} → Verdict A → Answer
+verdict_answer (Ok a) = answer 0 0 0
+verdict_answer (Err r) = refusal_answer r
+
+-- the library's own refusal, of what no caller should hand in
 abbrev pub misuse : {A : Type 0} → Verdict A
-misuse = refused 64 []
+misuse = refusal 64 []
 
--- the answers that tell the faults of each inner call
-abbrev pub of_wrap : WrapFault → Answer
-of_wrap f = refusing (wraps.refusal_of f)
+-- the answer that reports a fault of a wrap
+abbrev pub wrap_answer : WrapFault → Answer
+wrap_answer f = refusal_answer (wrap_refusal f)
 
--- the two values of a file's refusal with that epoch behind them
-abbrev pub file_values : ℕ → FileFault → ℕ × ℕ
-file_values epoch f = let told = (files.refusal_of f).values ++ (epoch ∷ []) in (get_or told 0 0, get_or told 1 0)
+-- the two values that a read reports of an opening in the file of that epoch
+abbrev pub opening_values : ℕ → FileFault → ℕ × ℕ
+opening_values epoch f = value_pair (refusal_with_epoch epoch (file_refusal f))
 
-abbrev pub of_read : ReadFault → Answer
-of_read f = refusing (reads.refusal_of f)
+-- the answer that reports a fault of a read
+abbrev pub read_answer : ReadFault → Answer
+read_answer f = refusal_answer (read_refusal f)
 
-abbrev pub of_enrolling : EnrolFault → Answer
-of_enrolling f = refusing (enrol_refusal f)
+-- the answer that reports a fault of an enrolling
+abbrev pub enrol_answer : EnrolFault → Answer
+enrol_answer f = refusal_answer (enrol_refusal f)
 
-abbrev pub of_ring : RingFault → Answer
-of_ring f = refusing (ring_refusal f)
+-- the answer that reports a fault of a showing or a wiping
+abbrev pub ring_answer : RingFault → Answer
+ring_answer f = refusal_answer (ring_refusal f)

@@ -1,84 +1,74 @@
--- Players as a caller keeps them, and the calls of such players.
+-- Players as a caller keeps them, in a struct of C, and the calls of such players. Where no player
+-- has these numbers, or it has no such call, the call is misuse and changes nothing.
 use Rattle.std.specs.Prelude.{if◌then◌else◌, ℕ, ◌+◌, List, length, ◌==◌}
 use Rattle.std.specs.Prelude.{Some, None, Ok, Err, Option, option_map}
-use Rattle.refusal.specs.Refusals.{Verdict, if_done}
-use Rattle.group.specs.Calls.{KeyWrap}
-use Rattle.scanner.specs.Players.{Scanner, Player, waiting, seated, wiped}
-use Rattle.scanner.specs.Players.{reading, show_verdict, wipe_verdict, read, wipe, after, leaves}
-use Rattle.climb.specs.Refusals.{done}
-use Rattle.player.specs.Stored.{player_of, stored_of, restored}
+use Rattle.std.specs.Option.{option_map_or}
+use Rattle.refusal.specs.Refusals.{Verdict, new_or_old}
+use Rattle.wrap.specs.Meaning.{WrapMeaning}
+use Rattle.player_rules.specs.Players.{PlayerNumbers, Player, waiting, seated, wiped}
+use Rattle.player_rules.specs.Players.{PlayerCall, read, show, wipe, player_after, ring_after}
+use Rattle.player_rules.specs.Players.{read_verdict, show_verdict, wipe_verdict}
+use Rattle.climb.specs.Refusals.{bare_verdict}
+use Rattle.player.specs.Stored.{player_of, stored_of, restore}
 use Rattle.player.specs.declared.any.Stored.{Stored}
 use Rattle.nannyseason.specs.Answers.{misuse}
 
 -- the player that the caller keeps, if these are numbers of one
 abbrev pub player_in : Stored → Option Player
-player_in k = option_map player_of (restored k)
+player_in k = option_map player_of (restore k)
 
--- what a read by that player tells; a wiped one has no such call
-abbrev pub read_by : KeyWrap → List ℕ → List ℕ → List ℕ → Player → Verdict (Unit {0})
-read_by w file work ring (waiting s) = done (reading s.leaf s.epoch w file work ring)
-read_by w file work ring (seated s) = done (reading s.leaf (s.epoch + 1) w file work ring)
-read_by w file work ring (wiped serial) = misuse
+-- the call that reads a file, where its wrap is known
+abbrev pub read_call : Option WrapMeaning → List ℕ → List ℕ → Option PlayerCall
+read_call w file work = option_map (λ v. read v file work) w
 
--- what a read tells, where wrap and player are known
-abbrev pub read_told :
-    Option KeyWrap → List ℕ → Option Player → List ℕ → List ℕ → Verdict (Unit {0})
-read_told None file p ring work = misuse
-read_told (Some w) file None ring work = misuse
-read_told (Some w) file (Some p) ring work = read_by w file work ring p
+-- what a showing gives by the player's state: only a seated one shows
+abbrev pub player_show_verdict : Player → List ℕ → Verdict (List ℕ)
+player_show_verdict (waiting s) ring = misuse
+player_show_verdict (seated s) ring = show_verdict ring
+player_show_verdict (wiped serial) ring = misuse
 
--- the player after a read, as it is kept: another one where the read was done
-abbrev pub read_keeps :
-    Option KeyWrap → List ℕ → Stored → List ℕ → List ℕ → Option Player → Stored
-read_keeps None file k ring work p = k
-read_keeps (Some w) file k ring work None = k
-read_keeps (Some w) file k ring work (Some p) =
-    if_done (read_by w file work ring p) (stored_of (after (read w file work) p ring)) k
+-- what a call reports by the player's state; a wiped one has no call
+abbrev pub player_call_verdict : PlayerCall → Player → List ℕ → Verdict (Unit {0})
+player_call_verdict (read w file work) (waiting s) ring =
+    bare_verdict (read_verdict s.leaf s.epoch w file work ring)
+player_call_verdict (read w file work) (seated s) ring =
+    bare_verdict (read_verdict s.leaf (s.epoch + 1) w file work ring)
+player_call_verdict (read w file work) (wiped serial) ring = misuse
+player_call_verdict show p ring = bare_verdict (player_show_verdict p ring)
+player_call_verdict wipe (waiting s) ring = wipe_verdict ring
+player_call_verdict wipe (seated s) ring = wipe_verdict ring
+player_call_verdict wipe (wiped serial) ring = misuse
 
--- the ring after a read
-abbrev pub read_leaves : Option KeyWrap → List ℕ → List ℕ → List ℕ → Option Player → List ℕ
-read_leaves None file ring work p = ring
-read_leaves (Some w) file ring work None = ring
-read_leaves (Some w) file ring work (Some p) = leaves (read w file work) p ring
+-- what comes of a call on a player, where both are known; else `other`
+abbrev pub if_known :
+    {A : Type 0} → Option PlayerCall → Option Player → (PlayerCall → Player → A) → A → A
+if_known None p outcome other = other
+if_known (Some c) None outcome other = other
+if_known (Some c) (Some p) outcome other = outcome c p
 
--- showing: only a seated player does
-abbrev pub show_by : List ℕ → Option Player → Verdict (List ℕ)
-show_by ring None = misuse
-show_by ring (Some (waiting s)) = misuse
-show_by ring (Some (seated s)) = show_verdict ring
-show_by ring (Some (wiped serial)) = misuse
+-- what a call on the player that a caller keeps reports
+abbrev pub stored_call_verdict : Option PlayerCall → Stored → List ℕ → Verdict (Unit {0})
+stored_call_verdict call k ring =
+    if_known call (player_in k) (λ c p. player_call_verdict c p ring) misuse
 
--- to a place of 32 bytes
-abbrev pub show_told : Option Player → List ℕ → List ℕ → Verdict (List ℕ)
-show_told p ring place = if length place == 32 then show_by ring p else misuse
-
--- the place after a showing
-abbrev pub shown_or : Verdict (List ℕ) → List ℕ → List ℕ
-shown_or (Ok key) place = key
-shown_or (Err r) place = place
-
--- what a wiping by that player tells; one that is wiped has no such call
-abbrev pub wipe_by : List ℕ → Player → Verdict (Unit {0})
-wipe_by ring (waiting s) = wipe_verdict ring
-wipe_by ring (seated s) = wipe_verdict ring
-wipe_by ring (wiped serial) = misuse
-
--- what a wiping tells, where the player is known
-abbrev pub wipe_told : Option Player → List ℕ → Verdict (Unit {0})
-wipe_told None ring = misuse
-wipe_told (Some p) ring = wipe_by ring p
-
--- the player after it, as it is kept
-abbrev pub wipe_keeps : Stored → List ℕ → Option Player → Stored
-wipe_keeps k ring None = k
-wipe_keeps k ring (Some p) = if_done (wipe_by ring p) (stored_of (after wipe p ring)) k
+-- what is kept after it: the player that the call made, where it was done
+abbrev pub stored_after_call : Option PlayerCall → Stored → List ℕ → Stored
+stored_after_call call k ring =
+    if_known call (player_in k)
+    (λ c p. new_or_old (player_call_verdict c p ring) (stored_of (player_after c p ring)) k) k
 
 -- the ring after it
-abbrev pub wipe_leaves : List ℕ → Option Player → List ℕ
-wipe_leaves ring None = ring
-wipe_leaves ring (Some p) = leaves wipe p ring
+abbrev pub ring_after_call : Option PlayerCall → Stored → List ℕ → List ℕ
+ring_after_call call k ring = if_known call (player_in k) (λ c p. ring_after c p ring) ring
 
--- the player after an enrolling, as it is kept
-abbrev pub enrolled_or : Verdict Scanner → Stored → Stored
-enrolled_or (Ok s) k = stored_of (waiting s)
-enrolled_or (Err r) k = k
+-- what a showing gives to a place, which has to have 32 bytes
+abbrev pub show_call_verdict : Stored → List ℕ → List ℕ → Verdict (List ℕ)
+show_call_verdict k ring place =
+    if length place == 32
+    then option_map_or (λ p. player_show_verdict p ring) (player_in k) misuse
+    else misuse
+
+-- what is kept after an enrolling: a waiting player, where it was done
+abbrev pub stored_after_enrol : Verdict PlayerNumbers → Stored → Stored
+stored_after_enrol (Ok s) k = stored_of (waiting s)
+stored_after_enrol (Err r) k = k

@@ -1,12 +1,14 @@
 //! What a call answers.
 ghost use Rattle.std.specs.Prelude.{◌≡◌};
-ghost use Rattle.nannyseason.specs.Answers.{of_wrap, file_values, of_read, of_enrolling, of_ring};
+ghost use Rattle.nannyseason.specs.Answers.{wrap_answer, opening_values, read_answer, enrol_answer, ring_answer};
 
-use layout::FileFault;
+use file_reader::FileFault;
+use layout::LayoutFault;
 use player::{EnrolFault, ReadFault, RingFault};
 use wrap::WrapFault;
 
-/// The number of a refusal, or 0, and the values that are told with it.
+/// What a call answers: 0 where it was done, else the number of its refusal; and the first two values
+/// of the refusal, 0 where there are fewer.
 #[repr(C)]
 #[derive(Clone, Copy)]
 pub struct Answer {
@@ -22,7 +24,7 @@ pub(crate) const DONE: Answer = Answer {
     second: 0,
 };
 
-/// The call got what no caller should hand in.
+/// The library's own refusal: the call got what no caller should hand in.
 pub(crate) const MISUSE: Answer = Answer {
     refusal: 64,
     first: 0,
@@ -30,7 +32,7 @@ pub(crate) const MISUSE: Answer = Answer {
 };
 
 impl From<WrapFault> for Answer {
-    ghost from_gives = { λ f a. a ≡ of_wrap f };
+    ghost from_gives = { λ f a. a ≡ wrap_answer f };
 
     fn from(fault: WrapFault) -> Answer {
         let first = match fault {
@@ -46,13 +48,14 @@ impl From<WrapFault> for Answer {
 }
 
 impl From<ReadFault> for Answer {
-    ghost from_gives = { λ f a. a ≡ of_read f };
+    ghost from_gives = { λ f a. a ≡ read_answer f };
 
     fn from(fault: ReadFault) -> Answer {
         let (first, second) = match fault {
             ReadFault::ShortWorking | ReadFault::NotARing => (0, 0),
+            ReadFault::Layout(LayoutFault { place }) => (place as u64, 0),
             ReadFault::TooLow { wanted } | ReadFault::TooHigh { wanted } => (wanted as u64, 0),
-            ReadFault::File { epoch, fault } => values_of(epoch.unwrap_or(0), fault),
+            ReadFault::File { epoch, fault } => opening_values(epoch, fault),
             ReadFault::ShutOut { node } => (node as u64, 0),
         };
         Answer {
@@ -63,22 +66,20 @@ impl From<ReadFault> for Answer {
     }
 }
 
-// The values that are told with a file's refusal, and that epoch behind them; 0 stands for no epoch.
-fn values_of(epoch: u32, fault: FileFault) -> (u64, u64)
-    ensures { result ≡ file_values epoch fault }
+// The values that a read reports of an opening in the file of that epoch.
+fn opening_values(epoch: u32, fault: FileFault) -> (u64, u64)
+    ensures { result ≡ opening_values epoch fault }
 {
+    let FileFault::Wrap { index, fault } = fault;
     match fault {
-        FileFault::Layout { place } => (place as u64, epoch as u64),
-        FileFault::Wrap { index, fault } => match fault {
-            WrapFault::ShortWorking => (epoch as u64, 0),
-            WrapFault::ShortBuffer { needed } => (needed as u64, epoch as u64),
-            WrapFault::DoesNotOpen => (index as u64, epoch as u64),
-        },
+        WrapFault::ShortWorking => (0, 0),
+        WrapFault::ShortBuffer { needed } => (needed as u64, 0),
+        WrapFault::DoesNotOpen => (index as u64, epoch as u64),
     }
 }
 
 impl From<EnrolFault> for Answer {
-    ghost from_gives = { λ f a. a ≡ of_enrolling f };
+    ghost from_gives = { λ f a. a ≡ enrol_answer f };
 
     fn from(fault: EnrolFault) -> Answer {
         let first = match fault {
@@ -94,7 +95,7 @@ impl From<EnrolFault> for Answer {
 }
 
 impl From<RingFault> for Answer {
-    ghost from_gives = { λ f a. a ≡ of_ring f };
+    ghost from_gives = { λ f a. a ≡ ring_answer f };
 
     fn from(fault: RingFault) -> Answer {
         Answer {

@@ -1,13 +1,16 @@
-//! The player and the two key wraps for C, as include/nannyseason.h declares them. Each function is the call that it is named
-//! after; what it refuses beyond that call's own refusals is what the Rust types of that call turn down.
+//! The player and the two key wraps for C, as include/nannyseason.h declares them. Each function is the
+//! call that it is named after. Beyond the refusals of that call it refuses as misuse what the Rust types
+//! of the call turn down.
 #![tactic(auto)]
 
-ghost use Rattle.std.specs.Prelude.{◌≡◌};
-ghost use Rattle.wrap.specs.Calls.{wiped};
-ghost use Rattle.scanner.specs.Players.{enrol_verdict, enrol_leaves};
-ghost use Rattle.nannyseason.specs.Answers.{says};
-ghost use Rattle.nannyseason.specs.Wraps.{wrap_of, seal_told, seal_left, open_told, open_left};
-ghost use Rattle.nannyseason.specs.Players.{player_in, read_told, read_keeps, read_leaves, show_told, shown_or, wipe_told, wipe_keeps, wipe_leaves, enrolled_or};
+ghost use Rattle.std.specs.Prelude.{◌≡◌, Some};
+ghost use Rattle.std.specs.Result.{result_unwrap_or};
+ghost use Rattle.wrap.specs.Calls.{work_after};
+ghost use Rattle.kinds.specs.Kinds.{wrap_of_kind};
+ghost use Rattle.player_rules.specs.Players.{enrol_verdict, ring_after_enrol, wipe};
+ghost use Rattle.nannyseason.specs.Answers.{verdict_answer};
+ghost use Rattle.nannyseason.specs.Wraps.{seal_call_verdict, buffer_after_seal_call, open_call_verdict, place_after_open_call};
+ghost use Rattle.nannyseason.specs.Players.{read_call, stored_call_verdict, stored_after_call, ring_after_call, show_call_verdict, stored_after_enrol};
 
 mod answer;
 mod players;
@@ -15,12 +18,11 @@ mod wraps;
 
 pub use answer::Answer;
 use answer::{DONE, MISUSE};
-use kw::KeyWrap;
+use kinds::Kind;
 use player::AnyPlayer;
 pub use player::Stored;
-use players::{player_in, read_with};
-use siv::Siv;
-use wraps::{misused, open_with, seal_with};
+use players::{ReadJob, keep, restore_from};
+use wraps::{OpenJob, SealJob, misuse_answer};
 
 /// Seals `content` by the wrap of that kind.
 #[unsafe(no_mangle)]
@@ -32,15 +34,25 @@ pub extern "C" fn nannyseason_seal(
     sealed: &mut [u8],
     work: &mut [u8],
 ) -> Answer
-    ensures answer { result ≡ says (seal_told (wrap_of kind) key.now name.now content.now sealed.old work.old) }
-    ensures written { sealed.new ≡ seal_left (wrap_of kind) key.now name.now content.now sealed.old work.old }
-    ensures cleared { work.new ≡ wiped work.old }
+    ensures answer { result
+        ≡ verdict_answer (seal_call_verdict (wrap_of_kind kind)
+        key.now name.now content.now sealed.old work.old) }
+    ensures written { sealed.new
+        ≡ buffer_after_seal_call (wrap_of_kind kind)
+        key.now name.now content.now sealed.old work.old }
+    ensures cleared { work.new ≡ work_after work.old }
 {
-    match kind {
-        1 => seal_with(&KeyWrap, key, name, content, sealed, work),
-        2 => seal_with(&Siv, key, name, content, sealed, work),
-        _ => misused(work),
-    }
+    let Ok(kind) = Kind::try_from(kind) else {
+        return misuse_answer(work);
+    };
+    let mut job = SealJob {
+        key,
+        name,
+        content,
+        sealed,
+        work,
+    };
+    kind.run(&mut job)
 }
 
 /// Opens `sealed` by the wrap of that kind, and writes what was sealed to `content`.
@@ -53,29 +65,37 @@ pub extern "C" fn nannyseason_open(
     content: &mut [u8],
     work: &mut [u8],
 ) -> Answer
-    ensures answer { result ≡ says (open_told (wrap_of kind) key.now name.now sealed.now content.old work.old) }
-    ensures written { content.new ≡ open_left (wrap_of kind) key.now name.now sealed.now content.old work.old }
-    ensures cleared { work.new ≡ wiped work.old }
+    ensures answer { result
+        ≡ verdict_answer (open_call_verdict (wrap_of_kind kind)
+        key.now name.now sealed.now content.old work.old) }
+    ensures written { content.new
+        ≡ place_after_open_call (wrap_of_kind kind)
+        key.now name.now sealed.now content.old work.old }
+    ensures cleared { work.new ≡ work_after work.old }
 {
-    match kind {
-        1 => open_with(&KeyWrap, key, name, sealed, content, work),
-        2 => open_with(&Siv, key, name, sealed, content, work),
-        _ => misused(work),
-    }
+    let Ok(kind) = Kind::try_from(kind) else {
+        return misuse_answer(work);
+    };
+    let mut job = OpenJob {
+        key,
+        name,
+        sealed,
+        content,
+        work,
+    };
+    kind.run(&mut job)
 }
 
 /// Enrols the player that a card is for.
 #[unsafe(no_mangle)]
 pub extern "C" fn nannyseason_enrol(card: &[u8], stored: &mut Stored, ring: &mut [u8]) -> Answer
-    ensures answer { result ≡ says (enrol_verdict card.now ring.old) }
-    ensures player { stored.new ≡ enrolled_or (enrol_verdict card.now ring.old) stored.old }
-    ensures ring { ring.new ≡ enrol_leaves card.now ring.old }
+    ensures answer { result ≡ verdict_answer (enrol_verdict card.now ring.old) }
+    ensures player { stored.new
+        ≡ stored_after_enrol (enrol_verdict card.now ring.old) stored.old }
+    ensures ring { ring.new ≡ ring_after_enrol card.now ring.old }
 {
     match player::enrol(card, ring) {
-        Ok(player) => {
-            *stored = AnyPlayer::from(player).store();
-            DONE
-        }
+        Ok(player) => keep(AnyPlayer::from(player), stored),
         Err(fault) => Answer::from(fault),
     }
 }
@@ -90,31 +110,39 @@ pub extern "C" fn nannyseason_read(
     work: &mut [u8],
 ) -> Answer
     ensures answer { result
-        ≡ says (read_told (wrap_of kind) file.now (player_in stored.old) ring.old work.old) }
+        ≡ verdict_answer (stored_call_verdict
+        (read_call (wrap_of_kind kind) file.now work.old) stored.old ring.old) }
     ensures player { stored.new
-        ≡ read_keeps (wrap_of kind) file.now stored.old ring.old work.old (player_in stored.old) }
+        ≡ stored_after_call
+        (read_call (wrap_of_kind kind) file.now work.old) stored.old ring.old }
     ensures ring { ring.new
-        ≡ read_leaves (wrap_of kind) file.now ring.old work.old (player_in stored.old) }
-    ensures cleared { work.new ≡ wiped work.old }
+        ≡ ring_after_call
+        (read_call (wrap_of_kind kind) file.now work.old) stored.old ring.old }
+    ensures cleared { work.new ≡ work_after work.old }
 {
-    match kind {
-        1 => read_with(&KeyWrap, file, stored, ring, work),
-        2 => read_with(&Siv, file, stored, ring, work),
-        _ => misused(work),
-    }
+    let Ok(kind) = Kind::try_from(kind) else {
+        return misuse_answer(work);
+    };
+    let mut job = ReadJob {
+        file,
+        stored,
+        ring,
+        work,
+    };
+    kind.run(&mut job)
 }
 
 /// Writes the group key of a seated player to `key`.
 #[unsafe(no_mangle)]
 pub extern "C" fn nannyseason_show(stored: &Stored, ring: &[u8], key: &mut [u8]) -> Answer
-    ensures answer { result ≡ says (show_told (player_in stored.now) ring.now key.old) }
+    ensures answer { result ≡ verdict_answer (show_call_verdict stored.now ring.now key.old) }
     ensures written { key.new
-        ≡ shown_or (show_told (player_in stored.now) ring.now key.old) key.old }
+        ≡ result_unwrap_or (show_call_verdict stored.now ring.now key.old) key.old }
 {
     let Some(place) = key.as_mut_array() else {
         return MISUSE;
     };
-    let Some(AnyPlayer::Seated(player)) = player_in(stored) else {
+    let Some(AnyPlayer::Seated(player)) = restore_from(stored) else {
         return MISUSE;
     };
     match player.show(ring) {
@@ -129,20 +157,17 @@ pub extern "C" fn nannyseason_show(stored: &Stored, ring: &[u8], key: &mut [u8])
 /// Makes zeros of the ring of a player that is not wiped.
 #[unsafe(no_mangle)]
 pub extern "C" fn nannyseason_wipe(stored: &mut Stored, ring: &mut [u8]) -> Answer
-    ensures answer { result ≡ says (wipe_told (player_in stored.old) ring.old) }
-    ensures player { stored.new ≡ wipe_keeps stored.old ring.old (player_in stored.old) }
-    ensures ring { ring.new ≡ wipe_leaves ring.old (player_in stored.old) }
+    ensures answer { result ≡ verdict_answer (stored_call_verdict (Some wipe) stored.old ring.old) }
+    ensures player { stored.new ≡ stored_after_call (Some wipe) stored.old ring.old }
+    ensures ring { ring.new ≡ ring_after_call (Some wipe) stored.old ring.old }
 {
-    let wiped = match player_in(stored) {
+    let wiped = match restore_from(stored) {
         Some(AnyPlayer::Waiting(player)) => player.wipe(ring).map_err(|r| r.fault),
         Some(AnyPlayer::Seated(player)) => player.wipe(ring).map_err(|r| r.fault),
         Some(AnyPlayer::Wiped(_)) | None => return MISUSE,
     };
     match wiped {
-        Ok(player) => {
-            *stored = AnyPlayer::from(player).store();
-            DONE
-        }
+        Ok(player) => keep(AnyPlayer::from(player), stored),
         Err(fault) => Answer::from(fault),
     }
 }
@@ -182,7 +207,7 @@ mod tests {
     }
 
     #[test]
-    fn needed_bytes_are_told(rt: HostRuntime) {
+    fn needed_bytes_are_reported(rt: HostRuntime) {
         let mut sealed = [7u8; 47];
         let mut work = [5u8; 512];
         let answer = nannyseason_seal(2, &KEY, &[0; 10], &CONTENT, &mut sealed, &mut work);

@@ -1,20 +1,21 @@
 //! The calls of players, for any numbers that a caller keeps.
 ghost use Rattle.std.specs.Prelude.{◌≡◌, Some};
-ghost use Rattle.wrap.specs.Calls.{wiped};
-ghost use Rattle.group.specs.Calls.{key_wrap};
-ghost use Rattle.player.specs.Stored.{restored};
-ghost use Rattle.nannyseason.specs.Answers.{says};
-ghost use Rattle.nannyseason.specs.Players.{player_in, read_told, read_keeps, read_leaves};
+ghost use Rattle.wrap.specs.Calls.{work_after};
+ghost use Rattle.player.specs.Stored.{store, restore};
+ghost use Rattle.nannyseason.specs.Answers.{answer, verdict_answer};
+ghost use Rattle.nannyseason.specs.Jobs.{ChangesTo};
+ghost use Rattle.nannyseason.specs.Players.{read_call, stored_call_verdict, stored_after_call, ring_after_call};
 
 use crate::answer::{Answer, DONE};
-use crate::wraps::misused;
+use crate::wraps::misuse_answer;
+use kinds::WrapJob;
 use player::{AnyPlayer, Stored};
 use wrap::Wrap;
 
-/// The player that the caller keeps, if these are numbers of one. They are read and stay with the
-/// caller, so that a refused call leaves them.
-pub(crate) fn player_in(stored: &Stored) -> Option<AnyPlayer>
-    ensures { result ≡ restored stored.now }
+/// The player that the caller keeps, if these are numbers of one. They stay with the caller, so that
+/// a refused call leaves them.
+pub(crate) fn restore_from(stored: &Stored) -> Option<AnyPlayer>
+    ensures { result ≡ restore stored.now }
 {
     AnyPlayer::restore(Stored {
         state: stored.state,
@@ -24,38 +25,49 @@ pub(crate) fn player_in(stored: &Stored) -> Option<AnyPlayer>
     })
 }
 
-pub(crate) fn read_with<W: Wrap>(
-    wrap: &W,
-    file: &[u8],
-    stored: &mut Stored,
-    ring: &mut [u8],
-    work: &mut [u8],
-) -> Answer
-    ensures answer { result
-        ≡ says (read_told (Some (key_wrap W.wrap_kind W.wrap_length W.sealed W.opened)) file.now
-        (player_in stored.old) ring.old work.old) }
-    ensures player { stored.new
-        ≡ read_keeps (Some (key_wrap W.wrap_kind W.wrap_length W.sealed W.opened)) file.now
-        stored.old ring.old work.old (player_in stored.old) }
-    ensures ring { ring.new
-        ≡ read_leaves (Some (key_wrap W.wrap_kind W.wrap_length W.sealed W.opened)) file.now
-        ring.old work.old (player_in stored.old) }
-    ensures cleared { work.new ≡ wiped work.old }
+/// Writes the player of a call that was done to where the caller keeps it.
+pub(crate) fn keep(player: AnyPlayer, stored: &mut Stored) -> Answer
+    ensures answer { result ≡ answer 0 0 0 }
+    ensures player { stored.new ≡ store player }
 {
-    let seated = match player_in(stored) {
-        Some(AnyPlayer::Waiting(player)) => {
-            player.read(wrap, file, ring, work).map_err(|r| r.fault)
+    *stored = player.store();
+    DONE
+}
+
+/// Reads `file` into the ring of the player, and clears `work`.
+#[derive(Drop)]
+pub(crate) struct ReadJob<'a> {
+    pub(crate) file: &'a [u8],
+    pub(crate) stored: &'a mut Stored,
+    pub(crate) ring: &'a mut [u8],
+    pub(crate) work: &'a mut [u8],
+}
+
+impl WrapJob for ReadJob<'_> {
+    type Output = Answer;
+
+    ghost gives = { λ w job answer after.
+        (answer ≡ verdict_answer (stored_call_verdict
+        (read_call (Some w) job.file.now job.work.now) job.stored.now job.ring.now))
+        × (ChangesTo job.stored after.stored (stored_after_call
+        (read_call (Some w) job.file.now job.work.now) job.stored.now job.ring.now)
+        × (ChangesTo job.ring after.ring (ring_after_call
+        (read_call (Some w) job.file.now job.work.now) job.stored.now job.ring.now)
+        × ChangesTo job.work after.work (work_after job.work.now))) };
+
+    fn run<W: Wrap>(&mut self, wrap: &W) -> Answer {
+        let seated = match restore_from(self.stored) {
+            Some(AnyPlayer::Waiting(player)) => player
+                .read(wrap, self.file, self.ring, self.work)
+                .map_err(|r| r.fault),
+            Some(AnyPlayer::Seated(player)) => player
+                .read(wrap, self.file, self.ring, self.work)
+                .map_err(|r| r.fault),
+            Some(AnyPlayer::Wiped(_)) | None => return misuse_answer(self.work),
+        };
+        match seated {
+            Ok(player) => keep(AnyPlayer::from(player), self.stored),
+            Err(fault) => Answer::from(fault),
         }
-        Some(AnyPlayer::Seated(player)) => {
-            player.read(wrap, file, ring, work).map_err(|r| r.fault)
-        }
-        Some(AnyPlayer::Wiped(_)) | None => return misused(work),
-    };
-    match seated {
-        Ok(player) => {
-            *stored = AnyPlayer::from(player).store();
-            DONE
-        }
-        Err(fault) => Answer::from(fault),
     }
 }

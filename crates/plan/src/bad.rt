@@ -1,4 +1,4 @@
-//! What may be wrong with a line.
+//! Why a line is bad.
 use thiserror::Error;
 
 /// What is wrong with a line.

@@ -1,9 +1,9 @@
 //! Lines: a strategy and a row of codes.
 ghost use Rattle.std.specs.Prelude.{◌≡◌};
-ghost use Rattle.plan.specs.Reading.{choice_of, code_of_digit, row_of, line_of};
+ghost use Rattle.plan.specs.Reading.{choice_of, code_of_digit, row_of, request_of_line};
 
 use crate::bad::Bad;
-use tree::Code;
+use tree::{CRADLES, Code};
 
 /// One of the three strategies.
 #[derive(Clone, Copy)]
@@ -35,8 +35,8 @@ impl TryFrom<u8> for Choice {
     }
 }
 
-// The code of a digit.
-fn code_of(digit: u8) -> Option<Code>
+// The code of a digit's byte, b'0' to b'4'.
+fn code_of_digit(digit: u8) -> Option<Code>
     ensures { result ≡ code_of_digit digit }
 {
     Code::try_from(digit.checked_sub(b'0')?).ok()
@@ -46,22 +46,22 @@ fn code_of(digit: u8) -> Option<Code>
 fn row_of(digits: &[u8]) -> Result<[Code; 128], Bad>
     ensures { result ≡ row_of digits.now }
 {
-    if digits.is_empty() || digits.len() > 128 {
+    if digits.is_empty() || digits.len() > CRADLES {
         return Err(Bad::RowLength {
             codes: digits.len(),
         });
     }
-    let mut row = [Code::Empty; 128];
+    let mut row = [Code::Empty; CRADLES];
     // By index: a proof does not know what a zipped `row.iter_mut()` has written.
     for (i, digit) in digits.iter().enumerate() {
-        row[i] = code_of(*digit).ok_or(Bad::NotACode { cradle: i + 1 })?;
+        row[i] = code_of_digit(*digit).ok_or(Bad::NotACode { cradle: i + 1 })?;
     }
     Ok(row)
 }
 
 /// Reads a line; `None` if it is empty.
 pub(crate) fn read_line(line: &[u8]) -> Result<Option<Request>, Bad>
-    ensures { result ≡ line_of line.now }
+    ensures { result ≡ request_of_line line.now }
 {
     match line {
         [] => Ok(None),

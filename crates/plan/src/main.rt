@@ -9,13 +9,17 @@ mod lines;
 use lines::{Choice, Request, read_line};
 use std::io::{self, BufRead, BufReader};
 use strategies::{KeyOriented, Star, UserOriented};
-use tree::{Board, Code, Opener, Pair, Strategy};
+use tree::{Board, Code, MOST_PAIRS, Opener, Pair, Strategy};
 
-// A lawful plan has at most 896 pairs, so there is room for it.
-fn plan_in_full<S: Strategy>(strategy: &S, row: &[Code; 128], pairs: &mut [Pair; 896]) -> usize
-    ensures count { result ≡ length (S.Strategy.planned row.now) }
-    ensures room { result ≤ 896 }
-    ensures written { pairs.new ≡ S.Strategy.planned row.now ++ drop result pairs.old }
+// A lawful plan has at most `MOST_PAIRS` pairs, so there is room for it.
+fn plan_in_full<S: Strategy>(
+    strategy: &S,
+    row: &[Code; 128],
+    pairs: &mut [Pair; MOST_PAIRS],
+) -> usize
+    ensures count { result ≡ length (S.Strategy.meaning row.now) }
+    ensures room { result ≤ MOST_PAIRS }
+    ensures written { pairs.new ≡ S.Strategy.meaning row.now ++ drop result pairs.old }
 {
     match strategy.plan(row, pairs) {
         Ok(count) => count,
@@ -35,7 +39,7 @@ fn show_plan<S: Strategy>(rt: &HostRuntime, strategy: &S, row: &[Code; 128]) -> 
     let mut pairs = [Pair {
         opener: Opener::Present(1),
         content: 1,
-    }; 896];
+    }; MOST_PAIRS];
     // The pairs and their number: a strategy writes into lent room.
     let count = plan_in_full(strategy, row, &mut pairs);
     let changed = Board::new(row).changed_count();

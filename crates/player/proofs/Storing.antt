@@ -2,65 +2,65 @@
 use Rattle.std.proofs.Common.{◌≡◌, ℕ, Bool, true, if◌then◌else◌, Some, None, Option, refl, subst, ap, ◌∙◌, arith, eqb-true}
 use Rattle.std.proofs.lemmas.Bool.{cond_both}
 use Rattle.std.proofs.lemmas.Option.{cond_some, none-some}
-use Rattle.scanner.specs.Players.{Scanner, scanner}
-use Rattle.group.specs.Notes.{IsSerial}
-use Rattle.player.specs.Ranges.{InRange}
-use Rattle.player.specs.Stored.{with_state, stored, is_in_range, is_serial_alone, numbers, restored, IsPossible}
+use Rattle.player_rules.specs.Players.{PlayerNumbers, player_numbers}
+use Rattle.keys.specs.Limits.{IsSerial}
+use Rattle.player.specs.Ranges.{IsInRange}
+use Rattle.player.specs.Stored.{with_state, store, is_in_range, is_serial_alone, stored_numbers, restore, IsPossible}
 use Rattle.player.specs.Laws.{StoringLaws}
 use Rattle.player.specs.declared.any.Stored.{Stored}
 use Rattle.player.specs.declared.any.AnyPlayer.{AnyPlayer}
 use Rattle.player.specs.declared.any.AnyPlayer.TheVariants as any
 
-passes_range : (state : ℕ) (s : Scanner) → InRange s.serial s.leaf s.epoch → is_in_range (with_state state s) ≡ true
+passes_range : (state : ℕ) (s : PlayerNumbers) → IsInRange s.serial s.leaf s.epoch → is_in_range (with_state state s) ≡ true
 passes_range state s r = grind (arith, r.serial_range, r.leaf_range, r.epoch_range)
 
-alone : (serial : ℕ) → IsSerial serial → is_serial_alone (stored (any.Wiped serial)) ≡ true
+alone : (serial : ℕ) → IsSerial serial → is_serial_alone (store (any.Wiped serial)) ≡ true
 alone serial r = grind (arith, r)
 
-back : (p : AnyPlayer) → IsPossible p → restored (stored p) ≡ Some p
+back : (p : AnyPlayer) → IsPossible p → restore (store p) ≡ Some p
 back (any.Waiting s) r = ap (λ b. if b then Some (any.Waiting s) else None) (passes_range 1 s r)
 back (any.Seated s) r = ap (λ b. if b then Some (any.Seated s) else None) (passes_range 2 s r)
 back (any.Wiped serial) r = ap (λ b. if b then Some (any.Wiped serial) else None) (alone serial r)
 
 module _ (s : Stored) where
-  in_ranges : is_in_range s ≡ true → InRange s.serial s.leaf s.epoch
+  in_ranges : is_in_range s ≡ true → IsInRange s.serial s.leaf s.epoch
   in_ranges e = record { serial_range = (grind arith, grind arith); leaf_range = (grind arith, grind arith); epoch_range = (grind arith, grind arith) }
 
   -- what stands in s is what is stored of that player, which has its ranges
-  abbrev Was : AnyPlayer → Type 0
-  Was p = (s ≡ stored p) × IsPossible p
+  abbrev IsStoredAs : AnyPlayer → Type 0
+  IsStoredAs p = (s ≡ store p) × IsPossible p
 
   -- s by its parts
-  by_parts : (state leaf epoch : ℕ) → s.state ≡ state → s.leaf ≡ leaf → s.epoch ≡ epoch → s ≡ with_state state (scanner s.serial leaf epoch)
+  by_parts : (state leaf epoch : ℕ) → s.state ≡ state → s.leaf ≡ leaf → s.epoch ≡ epoch → s ≡ with_state state (player_numbers s.serial leaf epoch)
   by_parts state leaf epoch a b c =
-      ap (λ n. with_state n (numbers s)) a
-      ∙ ap (λ n. with_state state (scanner s.serial n s.epoch)) b
-      ∙ ap (λ n. with_state state (scanner s.serial leaf n)) c
+      ap (λ n. with_state n (stored_numbers s)) a
+      ∙ ap (λ n. with_state state (player_numbers s.serial n s.epoch)) b
+      ∙ ap (λ n. with_state state (player_numbers s.serial leaf n)) c
 
-  waiting_was : s.state ≡ 1 → is_in_range s ≡ true → Was (any.Waiting (numbers s))
+  waiting_was : s.state ≡ 1 → is_in_range s ≡ true → IsStoredAs (any.Waiting (stored_numbers s))
   waiting_was is e = (by_parts 1 s.leaf s.epoch is refl refl, in_ranges e)
 
-  seated_was : s.state ≡ 2 → is_in_range s ≡ true → Was (any.Seated (numbers s))
+  seated_was : s.state ≡ 2 → is_in_range s ≡ true → IsStoredAs (any.Seated (stored_numbers s))
   seated_was is e = (by_parts 2 s.leaf s.epoch is refl refl, in_ranges e)
 
-  wiped_was : s.state ≡ 3 → is_serial_alone s ≡ true → Was (any.Wiped s.serial)
+  wiped_was : s.state ≡ 3 → is_serial_alone s ≡ true → IsStoredAs (any.Wiped s.serial)
   wiped_was is e = (by_parts 3 0 0 is (grind arith) (grind arith), (grind arith, grind arith))
 
   -- a player that comes from a test was there where the test succeeds
-  tested : (b : Bool) (q p : AnyPlayer) → (b ≡ true → Was q) → (if b then Some q else None) ≡ Some p → Was p
-  tested b q p h e = let both = cond_some b q p e in subst Was both.1 (h both.0)
+  tested : (b : Bool) (q p : AnyPlayer) → (b ≡ true → IsStoredAs q) → (if b then Some q else None) ≡ Some p → IsStoredAs p
+  tested b q p h e = let both = cond_some b q p e in subst IsStoredAs both.1 (h both.0)
 
-  was : (p : AnyPlayer) → restored s ≡ Some p → Was p
+  was : (p : AnyPlayer) → restore s ≡ Some p → IsStoredAs p
   was p = cond_both _ _ _ Comes
-      (λ one. tested (is_in_range s) (any.Waiting (numbers s)) p (waiting_was (eqb-true s.state 1 one)))
+      (λ one. tested (is_in_range s) (any.Waiting (stored_numbers s)) p (waiting_was (eqb-true s.state 1 one)))
       (λ _. cond_both _ _ _ Comes
-      (λ two. tested (is_in_range s) (any.Seated (numbers s)) p (seated_was (eqb-true s.state 2 two)))
+      (λ two. tested (is_in_range s) (any.Seated (stored_numbers s)) p (seated_was (eqb-true s.state 2 two)))
       (λ _. cond_both _ _ _ Comes
       (λ three. tested (is_serial_alone s) (any.Wiped s.serial) p (wiped_was (eqb-true s.state 3 three)))
       (λ _ e. absurd (none-some p e))))
     where
       Comes : Option AnyPlayer → Type 0
-      Comes o = o ≡ Some p → Was p
+      Comes o = o ≡ Some p → IsStoredAs p
 
 pub storing_laws : StoringLaws
 storing_laws = record { comes_back = back; nothing_else = was }

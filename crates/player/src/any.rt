@@ -1,10 +1,11 @@
 //! A player in any state, and what is stored of it.
 ghost use Rattle.std.specs.Prelude.{◌≡◌, Some};
-ghost use Rattle.player.specs.Stored.{stored, restored, is_in_range, is_serial_alone};
+ghost use Rattle.player.specs.Stored.{store, restore, is_in_range, is_serial_alone};
 ghost use Rattle.player.specs.Laws.{StoringLaws};
 ghost use Rattle.player.specs.declared.any.AnyPlayer.TheVariants as any;
 
 use crate::players::{Seated, Waiting, Wiped};
+use keys::{LAST_EPOCH, LAST_SERIAL};
 
 /// A player in any state. A match gives the player of that state back.
 #[derive(Drop)]
@@ -14,8 +15,8 @@ pub enum AnyPlayer {
     Wiped(Wiped),
 }
 
-/// What is stored of a player: its state (1 waiting, 2 seated, 3 wiped) and its numbers. Of a wiped
-/// one leaf and epoch are 0. It has eight bytes, and the layout of the struct in C.
+/// What is stored of a player: its state (1 waiting, 2 seated, 3 wiped) and its numbers. Leaf and
+/// epoch of a wiped player are 0. It has eight bytes, and the layout of the struct in C.
 #[repr(C)]
 #[derive(Drop, PartialEq, Eq, Debug)]
 pub struct Stored {
@@ -60,24 +61,24 @@ impl Stored {
     fn is_in_range(&self) -> bool
         ensures { result ≡ is_in_range self.now }
     {
-        (1..=9999).contains(&self.serial)
+        (1..=LAST_SERIAL).contains(&self.serial)
             && 128 <= self.leaf
-            && (1..=1_000_000).contains(&self.epoch)
+            && (1..=LAST_EPOCH).contains(&self.epoch)
     }
 
-    // Are they what is left of a wiped one?
+    // Are they what is left of a wiped player?
     fn is_serial_alone(&self) -> bool
         ensures { result ≡ is_serial_alone self.now }
     {
-        (1..=9999).contains(&self.serial) && self.leaf == 0 && self.epoch == 0
+        (1..=LAST_SERIAL).contains(&self.serial) && self.leaf == 0 && self.epoch == 0
     }
 }
 
 impl AnyPlayer {
     /// What to store of this player, which it replaces: `restore` gives the player back.
     pub fn store(self) -> Stored
-        ensures stored { result ≡ stored self }
-        ensures comes_back { restored result ≡ Some self }
+        ensures stored { result ≡ store self }
+        ensures comes_back { restore result ≡ Some self }
     {
         match self {
             AnyPlayer::Waiting(player) => Stored {
@@ -104,7 +105,7 @@ impl AnyPlayer {
     /// The player of which this was stored; `None` where no player has these numbers. The ring that
     /// is then lent to it is the one that was kept beside them.
     pub fn restore(stored: Stored) -> Option<AnyPlayer>
-        ensures { result ≡ restored stored }
+        ensures { result ≡ restore stored }
     {
         match stored.state {
             WAITING if stored.is_in_range() => Some(AnyPlayer::Waiting(Waiting {

@@ -7,7 +7,7 @@ ghost use Rattle.player.specs.Refusals.{enrol_refusal, ring_refusal};
 pub enum EnrolFault {
     /// The bytes that were lent as the ring are not 288.
     NotARing,
-    /// The bytes are no card: the place of the first fault.
+    /// The bytes are not a card: the place of the first fault.
     Card { place: usize },
 }
 

@@ -13,11 +13,12 @@ mod seated;
 mod waiting;
 
 pub use any::{AnyPlayer, Stored, storing_laws};
-pub use card::{CARD_BYTES, enrol};
+pub use card::enrol;
 pub use climb::ReadFault;
 pub use fault::{EnrolFault, RingFault};
+pub use keys::CARD_BYTES;
+pub use player_rules::RING_BYTES;
 pub use players::{Refused, Seated, Waiting, Wiped};
-pub use ring::RING_BYTES;
 
 impl Wiped {
     /// The serial of the player.

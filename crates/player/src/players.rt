@@ -1,8 +1,8 @@
-//! The states of a player: plain numbers, moved from call to call. The ring is lent at each call.
+//! The states of a player: plain numbers that move from call to call. A ring is lent to each call.
 ghost use Rattle.std.specs.Prelude.{ℕ};
-ghost use Rattle.scanner.specs.Players.{Scanner, scanner};
-ghost use Rattle.group.specs.Notes.{IsSerial};
-ghost use Rattle.player.specs.Ranges.{InRange};
+ghost use Rattle.player_rules.specs.Players.{PlayerNumbers, player_numbers};
+ghost use Rattle.keys.specs.Limits.{IsSerial};
+ghost use Rattle.player.specs.Ranges.{IsInRange};
 
 use std::marker::Model;
 
@@ -16,11 +16,11 @@ pub struct Waiting {
 }
 
 impl Model for Waiting {
-    ghost Value = { Scanner };
+    ghost Value = { PlayerNumbers };
 
-    ghost view = { λ p. scanner p.serial p.leaf p.epoch };
+    ghost view = { λ p. player_numbers p.serial p.leaf p.epoch };
 
-    ghost invariant = { λ p. InRange p.serial p.leaf p.epoch };
+    ghost invariant = { λ p. IsInRange p.serial p.leaf p.epoch };
 }
 
 /// A player whose ring has a group key.
@@ -33,11 +33,11 @@ pub struct Seated {
 }
 
 impl Model for Seated {
-    ghost Value = { Scanner };
+    ghost Value = { PlayerNumbers };
 
-    ghost view = { λ p. scanner p.serial p.leaf p.epoch };
+    ghost view = { λ p. player_numbers p.serial p.leaf p.epoch };
 
-    ghost invariant = { λ p. InRange p.serial p.leaf p.epoch };
+    ghost invariant = { λ p. IsInRange p.serial p.leaf p.epoch };
 }
 
 /// What is left of a player whose ring was wiped.

@@ -1,18 +1,19 @@
 //! Reading a file.
 ghost use Rattle.std.specs.Prelude.{◌≡◌, ◌≤◌, OnOk};
-ghost use Rattle.refusal.specs.Refusals.{told};
-ghost use Rattle.wrap.specs.Calls.{wiped};
-ghost use Rattle.group.specs.Calls.{key_wrap};
-ghost use Rattle.scanner.specs.Players.{reading, ring_or};
-ghost use Rattle.climb.specs.Refusals.{refusal_of, done};
+ghost use Rattle.refusal.specs.Refusals.{verdict_of};
+ghost use Rattle.wrap.specs.Calls.{work_after};
+ghost use Rattle.player_rules.specs.Players.{read_verdict, ring_or};
+ghost use Rattle.climb.specs.Refusals.{read_refusal, bare_verdict};
+ghost use Rattle.keys.specs.declared.limits.TheConstants.{LAST_EPOCH};
 
-use climb::{DatedFault, ReadFault, follow};
+use climb::{ReadFault, WayUp};
+use file_reader::RekeyFile;
 use layout::check;
-use reader::RekeyFile;
-use ring::RING_BYTES;
+use player_rules::RING_BYTES;
 use wrap::{WORKING_BYTES, Working, Wrap};
 
 /// Reads the file of the wanted epoch into the ring of the player at that leaf, and clears `work`.
+/// The ring is as it was where the file is refused.
 #[tactic(auto, using(crate::proofs::Epochs::epoch_range))]
 pub(crate) fn read_wanted<W: Wrap>(
     wrap: &W,
@@ -22,10 +23,12 @@ pub(crate) fn read_wanted<W: Wrap>(
     ring: &mut [u8],
     work: &mut [u8],
 ) -> Result<(), ReadFault>
-    ensures answer { told refusal_of result ≡ done (reading leaf wanted (key_wrap W.wrap_kind W.wrap_length W.sealed W.opened) file.now work.old ring.old) }
-    ensures ring { ring.new ≡ ring_or (reading leaf wanted (key_wrap W.wrap_kind W.wrap_length W.sealed W.opened) file.now work.old ring.old) ring.old }
-    ensures cleared { work.new ≡ wiped work.old }
-    ensures epoch { OnOk result (wanted ≤ 1000000) }
+    ensures answer { verdict_of read_refusal result
+        ≡ bare_verdict (read_verdict leaf wanted W.meaning file.now work.old ring.old) }
+    ensures ring { ring.new
+        ≡ ring_or (read_verdict leaf wanted W.meaning file.now work.old ring.old) ring.old }
+    ensures cleared { work.new ≡ work_after work.old }
+    ensures epoch { OnOk result (wanted ≤ LAST_EPOCH) }
 {
     let guard = Working { bytes: work };
     if guard.bytes.len() < WORKING_BYTES {
@@ -34,7 +37,7 @@ pub(crate) fn read_wanted<W: Wrap>(
     if ring.len() != RING_BYTES {
         return Err(ReadFault::NotARing);
     }
-    check(wrap, file).map_err(|fault| DatedFault { epoch: None, fault })?;
+    check(wrap, file)?;
     let file = RekeyFile::over(wrap, file);
     if file.epoch() < wanted {
         return Err(ReadFault::TooLow { wanted });
@@ -42,5 +45,5 @@ pub(crate) fn read_wanted<W: Wrap>(
     if file.epoch() > wanted {
         return Err(ReadFault::TooHigh { wanted });
     }
-    follow(wrap, file, leaf, ring, guard.bytes)
+    WayUp { wrap, file, leaf }.follow(ring, guard.bytes)
 }

@@ -1,16 +1,16 @@
 //! The ring that is lent to a call.
-ghost use Rattle.std.specs.Prelude.{◌≡◌, replicate};
-ghost use Rattle.refusal.specs.Refusals.{told, if_done};
-ghost use Rattle.scanner.specs.Players.{show_verdict, wipe_verdict};
+ghost use Rattle.std.specs.Prelude.{◌≡◌};
+ghost use Rattle.refusal.specs.Refusals.{verdict_of};
+ghost use Rattle.player_rules.specs.Players.{show_verdict, wipe_verdict, ring_after_wipe};
 ghost use Rattle.player.specs.Refusals.{ring_refusal};
 
 use crate::fault::RingFault;
 use byte_strings::part_of;
-use ring::RING_BYTES;
+use player_rules::RING_BYTES;
 
-/// The key of the root's entry.
+/// The group key: the key of the root's entry, from byte 256 on.
 pub(crate) fn group_key(ring: &[u8]) -> Result<[u8; 32], RingFault>
-    ensures { told ring_refusal result ≡ show_verdict ring.now }
+    ensures { verdict_of ring_refusal result ≡ show_verdict ring.now }
 {
     if ring.len() != RING_BYTES {
         return Err(RingFault::NotARing);
@@ -20,8 +20,8 @@ pub(crate) fn group_key(ring: &[u8]) -> Result<[u8; 32], RingFault>
 
 /// Makes zeros of the ring.
 pub(crate) fn wipe_ring(ring: &mut [u8]) -> Result<(), RingFault>
-    ensures answer { told ring_refusal result ≡ wipe_verdict ring.old }
-    ensures ring { ring.new ≡ if_done (wipe_verdict ring.old) (replicate 288 0) ring.old }
+    ensures answer { verdict_of ring_refusal result ≡ wipe_verdict ring.old }
+    ensures ring { ring.new ≡ ring_after_wipe ring.old }
 {
     if ring.len() != RING_BYTES {
         return Err(RingFault::NotARing);

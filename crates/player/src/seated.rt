@@ -1,13 +1,12 @@
 //! A player whose ring has a group key.
 ghost use Rattle.std.specs.Prelude.{◌≡◌, ◌+◌};
-ghost use Rattle.refusal.specs.Refusals.{told};
-ghost use Rattle.wrap.specs.Calls.{wiped};
-ghost use Rattle.group.specs.Calls.{key_wrap};
-ghost use Rattle.scanner.specs.Players.{reading, show_verdict, wipe_verdict, read, wipe, after, leaves};
-ghost use Rattle.scanner.specs.Players as states;
-ghost use Rattle.climb.specs.Refusals.{refusal_of, done};
+ghost use Rattle.refusal.specs.Refusals.{verdict_of};
+ghost use Rattle.wrap.specs.Calls.{work_after};
+ghost use Rattle.player_rules.specs.Players.{read_verdict, show_verdict, wipe_verdict, read, wipe, player_after, ring_after};
+ghost use Rattle.player_rules.specs.Players as states;
+ghost use Rattle.climb.specs.Refusals.{read_refusal, bare_verdict};
 ghost use Rattle.player.specs.Refusals.{ring_refusal};
-ghost use Rattle.player.specs.Views.{told_moved, moved};
+ghost use Rattle.player.specs.Views.{move_verdict, moved_player};
 
 use crate::fault::RingFault;
 use crate::players::{Refused, Seated, Wiped};
@@ -32,16 +31,16 @@ impl Seated {
         ring: &mut [u8],
         work: &mut [u8],
     ) -> Result<Seated, Refused<Seated, ReadFault>>
-        ensures answer { told_moved refusal_of result
-            ≡ done (reading self.leaf (self.epoch + 1)
-            (key_wrap W.wrap_kind W.wrap_length W.sealed W.opened) file.now work.old ring.old) }
-        ensures player { moved states.seated states.seated result
-            ≡ after (read (key_wrap W.wrap_kind W.wrap_length W.sealed W.opened) file.now work.old)
+        ensures answer { move_verdict read_refusal result
+            ≡ bare_verdict (read_verdict self.leaf (self.epoch + 1)
+            W.meaning file.now work.old ring.old) }
+        ensures player { moved_player states.seated states.seated result
+            ≡ player_after (read W.meaning file.now work.old)
             (states.seated self) ring.old }
         ensures ring { ring.new
-            ≡ leaves (read (key_wrap W.wrap_kind W.wrap_length W.sealed W.opened) file.now work.old)
+            ≡ ring_after (read W.meaning file.now work.old)
             (states.seated self) ring.old }
-        ensures cleared { work.new ≡ wiped work.old }
+        ensures cleared { work.new ≡ work_after work.old }
     {
         let next = self.epoch + 1;
         match read_wanted(wrap, file, self.leaf, next, ring, work) {
@@ -59,17 +58,17 @@ impl Seated {
 
     /// The group key in the ring.
     pub fn show(&self, ring: &[u8]) -> Result<[u8; 32], RingFault>
-        ensures { told ring_refusal result ≡ show_verdict ring.now }
+        ensures { verdict_of ring_refusal result ≡ show_verdict ring.now }
     {
         group_key(ring)
     }
 
     /// Makes zeros of the ring.
     pub fn wipe(self, ring: &mut [u8]) -> Result<Wiped, Refused<Seated, RingFault>>
-        ensures answer { told_moved ring_refusal result ≡ wipe_verdict ring.old }
-        ensures player { moved states.wiped states.seated result
-            ≡ after wipe (states.seated self) ring.old }
-        ensures ring { ring.new ≡ leaves wipe (states.seated self) ring.old }
+        ensures answer { move_verdict ring_refusal result ≡ wipe_verdict ring.old }
+        ensures player { moved_player states.wiped states.seated result
+            ≡ player_after wipe (states.seated self) ring.old }
+        ensures ring { ring.new ≡ ring_after wipe (states.seated self) ring.old }
     {
         match wipe_ring(ring) {
             Ok(()) => Ok(Wiped {

@@ -1,12 +1,11 @@
 //! A player that has read no file yet.
 ghost use Rattle.std.specs.Prelude.{◌≡◌};
-ghost use Rattle.wrap.specs.Calls.{wiped};
-ghost use Rattle.group.specs.Calls.{key_wrap};
-ghost use Rattle.scanner.specs.Players.{reading, wipe_verdict, read, wipe, after, leaves};
-ghost use Rattle.scanner.specs.Players as states;
-ghost use Rattle.climb.specs.Refusals.{refusal_of, done};
+ghost use Rattle.wrap.specs.Calls.{work_after};
+ghost use Rattle.player_rules.specs.Players.{read_verdict, wipe_verdict, read, wipe, player_after, ring_after};
+ghost use Rattle.player_rules.specs.Players as states;
+ghost use Rattle.climb.specs.Refusals.{read_refusal, bare_verdict};
 ghost use Rattle.player.specs.Refusals.{ring_refusal};
-ghost use Rattle.player.specs.Views.{told_moved, moved};
+ghost use Rattle.player.specs.Views.{move_verdict, moved_player};
 
 use crate::fault::RingFault;
 use crate::players::{Refused, Seated, Waiting, Wiped};
@@ -24,16 +23,16 @@ impl Waiting {
         ring: &mut [u8],
         work: &mut [u8],
     ) -> Result<Seated, Refused<Waiting, ReadFault>>
-        ensures answer { told_moved refusal_of result
-            ≡ done (reading self.leaf self.epoch
-            (key_wrap W.wrap_kind W.wrap_length W.sealed W.opened) file.now work.old ring.old) }
-        ensures player { moved states.seated states.waiting result
-            ≡ after (read (key_wrap W.wrap_kind W.wrap_length W.sealed W.opened) file.now work.old)
+        ensures answer { move_verdict read_refusal result
+            ≡ bare_verdict (read_verdict self.leaf self.epoch
+            W.meaning file.now work.old ring.old) }
+        ensures player { moved_player states.seated states.waiting result
+            ≡ player_after (read W.meaning file.now work.old)
             (states.waiting self) ring.old }
         ensures ring { ring.new
-            ≡ leaves (read (key_wrap W.wrap_kind W.wrap_length W.sealed W.opened) file.now work.old)
+            ≡ ring_after (read W.meaning file.now work.old)
             (states.waiting self) ring.old }
-        ensures cleared { work.new ≡ wiped work.old }
+        ensures cleared { work.new ≡ work_after work.old }
     {
         match read_wanted(wrap, file, self.leaf, self.epoch, ring, work) {
             Ok(()) => Ok(Seated {
@@ -50,10 +49,10 @@ impl Waiting {
 
     /// Makes zeros of the ring.
     pub fn wipe(self, ring: &mut [u8]) -> Result<Wiped, Refused<Waiting, RingFault>>
-        ensures answer { told_moved ring_refusal result ≡ wipe_verdict ring.old }
-        ensures player { moved states.wiped states.waiting result
-            ≡ after wipe (states.waiting self) ring.old }
-        ensures ring { ring.new ≡ leaves wipe (states.waiting self) ring.old }
+        ensures answer { move_verdict ring_refusal result ≡ wipe_verdict ring.old }
+        ensures player { moved_player states.wiped states.waiting result
+            ≡ player_after wipe (states.waiting self) ring.old }
+        ensures ring { ring.new ≡ ring_after wipe (states.waiting self) ring.old }
     {
         match wipe_ring(ring) {
             Ok(()) => Ok(Wiped {

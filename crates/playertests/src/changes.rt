@@ -3,10 +3,10 @@ use crate::bytes::{
     CARD_11, CARD_12, CARD_12_A_THIRD_TIME, CARD_12_AGAIN, FILE_1, FILE_2, FILE_3, FILE_4, FILE_5,
     FILE_6, GROUP_KEYS, RING_11,
 };
-use crate::players::{Calls, enrolled, is_refused, reads};
+use crate::players::{enrolled, is_refused, reads, seated};
 use crate::sums::sum_of;
 use kw::KeyWrap;
-use player::{AnyPlayer, ReadFault};
+use player::ReadFault;
 use siv::Siv;
 
 #[test]
@@ -54,10 +54,6 @@ fn a_scanner_that_departs_and_comes_back(rt: HostRuntime) {
     let player = enrolled(rt, &CARD_12_A_THIRD_TIME, &mut ring);
     let player = reads(rt, player, &Siv, &FILE_6, &mut ring, GROUP_KEYS[5]);
     assert_eq!(rt; sum_of(&ring), 17_855_002_128_563_274_599);
-    let AnyPlayer::Seated(player) = player else {
-        assert!(rt; false, "the player waits");
-        return;
-    };
-    let wiped = player.wipe(&mut ring);
+    let wiped = seated(rt, player).wipe(&mut ring);
     assert!(rt; wiped.is_ok_and(|wiped| wiped.serial() == 12) && ring == [0; 288]);
 }

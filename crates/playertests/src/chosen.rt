@@ -27,7 +27,8 @@ fn taken<W: Wrap>(
     player
 }
 
-// Reads a file with the wrap of one index damaged: it is refused if the wrap is one of those that are opened, and else taken.
+// Reads a file with the wrap of one index damaged: it is refused if the wrap is one of those that
+// are opened, and else taken.
 fn reads_damaged<W: Wrap>(
     rt: &impl Abort,
     player: AnyPlayer,
@@ -90,8 +91,8 @@ fn the_first_wrap_that_matches_is_taken(rt: HostRuntime) {
     first_that_matches(&rt, &Siv, &mut file_5, &mut file_6);
 }
 
-// Node 85 gets its new key, and then nothing opens 42: the ring is as it was, and the right file is read after that. Of two faults the
-// one of the lower node is told, wherever their wraps stand.
+// Node 85 gets its new key, and then nothing opens 42: the ring is as it was, and the right file is
+// read after that. Of two faults the one of the lower node is reported, wherever their wraps stand.
 fn shut_out<W: Wrap>(rt: &impl Abort, wrap: &W, file_5: &[u8], shut: &mut [u8], file_6: &[u8]) {
     let mut ring = [9u8; 288];
     let player = enrolled(rt, &CARD_42, &mut ring);

@@ -1,17 +1,26 @@
 //! Cards and rings: which are refused, and what an enrolling, a showing and a wiping leave.
 use crate::bytes::{CARD_11, FILE_1, FILE_2, GROUP_KEYS};
-use crate::players::{Calls, enrolled, reads};
+use crate::players::{Calls, enrolled, reads, seated};
 use kw::KeyWrap;
 use player::{AnyPlayer, EnrolFault, RingFault, Seated, enrol};
 use siv::Siv;
 use std::process::Abort;
 
+// The card of scanner 11 with another serial, leaf and epoch.
+fn card_with(serial: [u8; 2], leaf: u8, epoch: u32) -> [u8; 39] {
+    let mut card = CARD_11;
+    card[..2].copy_from_slice(&serial);
+    card[2] = leaf;
+    card[3..7].copy_from_slice(&epoch.to_be_bytes());
+    card
+}
+
 // A card is refused, and the ring is as it was.
 fn no_player(rt: &impl Abort, card: &[u8], ring_bytes: usize, fault: EnrolFault, number: u8) {
     let mut ring = [9u8; 300];
     assert!(rt; ring_bytes <= 300);
-    let told = enrol(card, &mut ring[..ring_bytes]).err();
-    assert_eq!(rt; told, Some(fault));
+    let answer = enrol(card, &mut ring[..ring_bytes]).err();
+    assert_eq!(rt; answer, Some(fault));
     assert_eq!(rt; fault.number(), number);
     assert!(rt; ring == [9; 300]);
 }
@@ -41,11 +50,7 @@ fn one_check_after_the_other(rt: HostRuntime) {
         ([1, 0], 255, 0xFFFF_FFFF, 3),
     ];
     for (serial, leaf, epoch, place) in spoilt {
-        let epoch: u32 = epoch;
-        let mut card = CARD_11;
-        card[..2].copy_from_slice(&serial);
-        card[2] = leaf;
-        card[3..7].copy_from_slice(&epoch.to_be_bytes());
+        let card = card_with(serial, leaf, epoch);
         no_player(rt, &card, 288, EnrolFault::Card { place }, 13);
     }
     card[..39].copy_from_slice(&CARD_11);
@@ -61,11 +66,7 @@ fn a_card_fills_the_first_entry(rt: HostRuntime) {
         ([1, 0], 129, 65_536),
     ];
     for (serial, leaf, epoch) in taken {
-        let epoch: u32 = epoch;
-        let mut card = CARD_11;
-        card[..2].copy_from_slice(&serial);
-        card[2] = leaf;
-        card[3..7].copy_from_slice(&epoch.to_be_bytes());
+        let card = card_with(serial, leaf, epoch);
         let mut ring = [9u8; 288];
         let Ok(player) = enrol(&card, &mut ring) else {
             assert!(rt; false, "the card is refused");
@@ -117,10 +118,7 @@ fn a_seated_player_shows_and_wipes(rt: HostRuntime) {
     let player = enrolled(rt, &CARD_11, &mut ring);
     assert!(rt; player.shown(&ring).is_none());
     let player = reads(rt, player, &KeyWrap, &FILE_1, &mut ring, GROUP_KEYS[0]);
-    let AnyPlayer::Seated(player) = player else {
-        assert!(rt; false, "the player waits");
-        return;
-    };
+    let player = seated(rt, player);
     let before = ring;
     let Some(player) = refuses_other_lengths(rt, player, &ring) else {
         return;
@@ -135,10 +133,6 @@ fn a_seated_player_shows_and_wipes(rt: HostRuntime) {
         &mut ring,
         GROUP_KEYS[1],
     );
-    let AnyPlayer::Seated(player) = player else {
-        assert!(rt; false, "the player waits");
-        return;
-    };
-    let wiped = player.wipe(&mut ring);
+    let wiped = seated(rt, player).wipe(&mut ring);
     assert!(rt; wiped.is_ok_and(|wiped| wiped.serial() == 11) && ring == [0; 288]);
 }

@@ -1,4 +1,5 @@
-//! Tests of the player: rings and group keys against a model from elsewhere, and each refusal with what it leaves. No other code.
+//! Tests of the player: rings and group keys against a model from elsewhere, and each refusal with
+//! what it leaves. No other code.
 #![tactic(auto)]
 
 #[cfg(test)]

@@ -1,11 +1,14 @@
-//! A long run, rolled by a generator that the model has too: the server publishes, and all players read its files, whole or spoilt. The sum
-//! over all answers, rings and group keys is the model's.
+//! A long run, rolled by dice that the model has too: the server publishes, and all players read its
+//! files, whole or spoilt. The sum over all answers, rings and group keys is the model's.
 ghost use Rattle.std.specs.Prelude.{◌<◌, ◌≤◌};
+ghost use Rattle.player_rules.specs.declared.limits.TheConstants.{RING_BYTES};
+ghost use Rattle.wrap.specs.declared.working.TheConstants.{WORKING_BYTES};
 
 use crate::players::{Calls, ENOUGH, Lengths};
-use crate::sums::Sum;
+use crate::sums::add_read;
 use kw::KeyWrap;
 use player::{AnyPlayer, EnrolFault, enrol};
+use rolls::{Dice, Sum};
 use server::Server;
 use siv::Siv;
 use std::array;
@@ -22,36 +25,26 @@ struct Scanner {
     ring: [u8; 288],
 }
 
-// The generator's last number, the sum over all that was answered, the server, and the file before.
+// The dice, the sum over all that was answered, the server, and the file before.
 #[derive(Drop)]
 struct Run {
-    rolled: u32,
+    dice: Dice,
     sum: Sum,
     server: Server,
     former: [u8; 6000],
     former_bytes: usize,
 }
 
-impl Run {
-    fn roll(&mut self) -> u32 {
-        self.rolled = self
-            .rolled
-            .wrapping_mul(1_664_525)
-            .wrapping_add(1_013_904_223);
-        self.rolled >> 16
-    }
-}
-
 fn admit(run: &mut Run) {
-    let serial = run.roll() % 14;
-    let cradle = run.roll() % 11 * 13;
+    let serial = run.dice.roll() % 14;
+    let cradle = run.dice.roll() % 11 * 13;
     let fault = run.server.admit(serial, cradle).err();
     let number = fault.map_or(0, |fault| fault.number());
     run.sum.add(usize::from(number));
 }
 
 fn remove(run: &mut Run) {
-    let serial = run.roll() % 14;
+    let serial = run.dice.roll() % 14;
     let fault = run.server.remove(serial).err();
     let number = fault.map_or(0, |fault| fault.number());
     run.sum.add(usize::from(number));
@@ -83,9 +76,9 @@ fn enrol_newcomer(run: &mut Run, scanner: &mut Scanner) {
     if u32::from_be_bytes([a, b, c, d]) != run.server.epoch() {
         return;
     }
-    if run.roll() % 4 == 0 {
-        let at = run.roll() as usize % 39;
-        let mask = (1 + run.roll() % 255) as u8;
+    if run.dice.roll() % 4 == 0 {
+        let at = run.dice.roll() as usize % 39;
+        let mask = (1 + run.dice.roll() % 255) as u8;
         let mut spoilt = card;
         spoilt[at] ^= mask;
         enrol_with(run, scanner, &spoilt);
@@ -94,8 +87,8 @@ fn enrol_newcomer(run: &mut Run, scanner: &mut Scanner) {
 }
 
 fn read<W: Wrap>(run: &mut Run, scanner: &mut Scanner, wrap: &W, file: &[u8], lengths: Lengths)
-    requires ring { lengths.ring ≤ 288 }
-    requires work { lengths.work ≤ 512 }
+    requires ring { lengths.ring ≤ RING_BYTES }
+    requires work { lengths.work ≤ WORKING_BYTES }
 {
     let Some(player) = scanner.player.take() else {
         return;
@@ -108,7 +101,7 @@ fn read<W: Wrap>(run: &mut Run, scanner: &mut Scanner, wrap: &W, file: &[u8], le
         &mut work[..lengths.work],
     );
     scanner.player = Some(player);
-    run.sum.add_told(fault);
+    add_read(&mut run.sum, fault);
     for byte in work.iter().take(lengths.work).skip(510) {
         run.sum.add(usize::from(*byte));
     }
@@ -123,8 +116,8 @@ fn read_spoilt<W: Wrap>(
 )
     requires { (0 < bytes) × (bytes ≤ 6000) }
 {
-    let at = run.roll() as usize % bytes;
-    let mask = (1 + run.roll() % 255) as u8;
+    let at = run.dice.roll() as usize % bytes;
+    let mask = (1 + run.dice.roll() % 255) as u8;
     let mut spoilt = *file;
     spoilt[at] ^= mask;
     read(run, scanner, wrap, &spoilt[..bytes], ENOUGH);
@@ -158,7 +151,7 @@ fn fail_at_first<V: Wrap, W: Wrap>(
 )
     requires { (0 < bytes) × (bytes ≤ 6000) }
 {
-    match run.roll() % 16 {
+    match run.dice.roll() % 16 {
         0 => read_spoilt(run, scanner, wrap, file, bytes),
         1 => {
             let lengths = Lengths {
@@ -177,7 +170,7 @@ fn fail_at_first<V: Wrap, W: Wrap>(
         3 => read(run, scanner, other, &file[..bytes], ENOUGH),
         4 => read_former(rt, run, scanner, wrap),
         5 => {
-            if run.roll() % 4 == 0 {
+            if run.dice.roll() % 4 == 0 {
                 wipe(rt, run, scanner);
             }
         }
@@ -222,8 +215,8 @@ fn publish<S: Strategy, V: Wrap, W: Wrap>(
     other: &W,
 ) {
     let mut material = [0u8; 3000];
-    for i in 0..3000 {
-        material[i] = (run.roll() % 256) as u8;
+    for byte in &mut material {
+        *byte = (run.dice.roll() % 256) as u8;
     }
     let nobody = Pair {
         opener: Opener::Present(0),
@@ -233,19 +226,19 @@ fn publish<S: Strategy, V: Wrap, W: Wrap>(
     let mut file = [0u8; 6000];
     let mut work = [5u8; 512];
     let done = run.server.publish(strategy, wrap, &material, &mut pairs, &mut file, &mut work);
-    let told = match done {
-        Ok(told) => told,
+    let report = match done {
+        Ok(report) => report,
         Err(fault) => {
             run.sum.add(usize::from(fault.number()));
             return;
         }
     };
-    run.sum.add(told.epoch as usize);
-    run.sum.add(told.wraps);
-    run.sum.add(told.bytes);
-    run.sum.add(told.drawn);
+    run.sum.add(report.epoch as usize);
+    run.sum.add(report.wraps);
+    run.sum.add(report.bytes);
+    run.sum.add(report.drawn);
     run.sum.add_all(&run.server.group_key().unwrap_or([0; 32]));
-    let bytes = told.bytes;
+    let bytes = report.bytes;
     assert!(rt; 0 < bytes && bytes <= 6000);
     for scanner in scanners {
         follow(rt, run, scanner, wrap, other, &file, bytes);
@@ -255,7 +248,7 @@ fn publish<S: Strategy, V: Wrap, W: Wrap>(
 }
 
 fn publish_by_any(rt: &impl Abort, run: &mut Run, scanners: &mut [Scanner; 13]) {
-    match run.roll() % 6 {
+    match run.dice.roll() % 6 {
         0 => publish(rt, run, scanners, &Star::default(), &KeyWrap, &Siv),
         1 => publish(rt, run, scanners, &Star::default(), &Siv, &KeyWrap),
         2 => publish(rt, run, scanners, &UserOriented::default(), &KeyWrap, &Siv),
@@ -269,7 +262,7 @@ fn publish_by_any(rt: &impl Abort, run: &mut Run, scanners: &mut [Scanner; 13]) 
 fn a_long_run_is_as_in_the_model(rt: HostRuntime) {
     let rt = &rt;
     let mut run = Run {
-        rolled: 7,
+        dice: Dice { state: 7 },
         sum: Sum { value: 0 },
         server: Server::new(),
         former: [0; 6000],
@@ -281,7 +274,7 @@ fn a_long_run_is_as_in_the_model(rt: HostRuntime) {
         ring: [0; 288],
     });
     for _ in 0..3300 {
-        match run.roll() % 32 {
+        match run.dice.roll() % 32 {
             0..=13 => admit(&mut run),
             14..=22 => remove(&mut run),
             23 => run.server.drop_notes(),

@@ -1,6 +1,7 @@
 //! A player under test.
-use layout::FileFault;
-use player::{AnyPlayer, ReadFault, enrol};
+use file_reader::FileFault;
+use layout::LayoutFault;
+use player::{AnyPlayer, ReadFault, Seated, enrol};
 use std::process::Abort;
 use wrap::{Wrap, WrapFault};
 
@@ -58,18 +59,15 @@ impl Calls for AnyPlayer {
     }
 }
 
-/// What is told of bytes that are no file.
+/// The fault of bytes that are not a rekey file: the place of the first fault.
 pub(crate) fn no_file(place: usize) -> ReadFault {
-    ReadFault::File {
-        epoch: None,
-        fault: FileFault::Layout { place },
-    }
+    ReadFault::Layout(LayoutFault { place })
 }
 
-/// What is told where the wrap of that index does not open.
+/// The fault where the wrap of that index does not open.
 pub(crate) fn does_not_open(index: usize, epoch: u32) -> ReadFault {
     ReadFault::File {
-        epoch: Some(epoch),
+        epoch,
         fault: FileFault::Wrap {
             index,
             fault: WrapFault::DoesNotOpen,
@@ -92,6 +90,15 @@ pub(crate) const ENOUGH: Lengths = Lengths {
 /// Enrols a player with a card that is taken.
 pub(crate) fn enrolled(rt: &impl Abort, card: &[u8], ring: &mut [u8]) -> AnyPlayer {
     AnyPlayer::from(enrol(card, ring).expect(rt, "the card is refused"))
+}
+
+/// The seated player that this one is.
+pub(crate) fn seated(rt: &impl Abort, player: AnyPlayer) -> Seated {
+    let seated = match player {
+        AnyPlayer::Seated(player) => Some(player),
+        _ => None,
+    };
+    seated.expect(rt, "the player is not seated")
 }
 
 /// Reads a file that is taken, and looks at all that a reading leaves but the ring.
@@ -123,8 +130,8 @@ pub(crate) fn is_refused<W: Wrap>(
 ) -> AnyPlayer {
     let before = *ring;
     let mut work = [5u8; 512];
-    let (player, told) = player.read(wrap, file, ring, &mut work);
-    assert_eq!(rt; told, Some(fault));
+    let (player, answer) = player.read(wrap, file, ring, &mut work);
+    assert_eq!(rt; answer, Some(fault));
     assert_eq!(rt; fault.number(), number);
     assert!(rt; *ring == before && work == [0; 512]);
     player

@@ -39,13 +39,13 @@ fn no_reading<W: Wrap>(
     let before = *ring;
     let mut work = [5u8; 600];
     assert!(rt; lengths.ring <= 300 && lengths.work <= 600);
-    let (player, told) = player.read(
+    let (player, answer) = player.read(
         wrap,
         file,
         &mut ring[..lengths.ring],
         &mut work[..lengths.work],
     );
-    assert_eq!(rt; told, Some(fault));
+    assert_eq!(rt; answer, Some(fault));
     assert_eq!(rt; fault.number(), number);
     assert!(rt; *ring == before);
     let left = if lengths.work < 512 { 5 } else { 0 };
@@ -54,7 +54,8 @@ fn no_reading<W: Wrap>(
     player
 }
 
-// Whoever wants epoch `wanted` is refused for the bytes that are lent, for the layout and for the epoch, in that order.
+// Whoever wants epoch `wanted` is refused for the bytes that are lent, for the layout and for the
+// epoch, in that order.
 fn refused_in_order<W: Wrap>(
     rt: &impl Abort,
     player: AnyPlayer,

@@ -1,9 +1,11 @@
-//! Files with one byte spoilt, at each place, and cut at each length: the sum over all that is told, and all rings, is the model's.
+//! Files with one byte spoilt, at each place, and cut at each length: the sum over all answers and
+//! rings is the model's.
 use crate::bytes::{CARD_11, CARD_12_AGAIN, FILE_1, FILE_2, FILE_4, FILE_5};
 use crate::players::{Calls, enrolled};
-use crate::sums::Sum;
+use crate::sums::add_read;
 use kw::KeyWrap;
 use player::AnyPlayer;
+use rolls::Sum;
 use siv::Siv;
 use std::process::Abort;
 use wrap::Wrap;
@@ -40,7 +42,7 @@ fn try_reading<W: Wrap>(rt: &impl Abort, stage: Stage, wrap: &W, file: &[u8], su
     let player = player_of(rt, stage, &mut ring, &mut work);
     let before = ring;
     let (_player, fault) = player.read(wrap, file, &mut ring, &mut work);
-    sum.add_told(fault);
+    add_read(sum, fault);
     if fault.is_some() {
         assert!(rt; ring == before);
     } else {

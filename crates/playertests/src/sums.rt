@@ -1,52 +1,31 @@
-//! One number for many: a sum that depends on each number and on their order.
-use layout::FileFault;
+//! One number for many answers.
+use file_reader::FileFault;
 use player::ReadFault;
+use rolls::Sum;
 
-#[derive(Drop)]
-pub(crate) struct Sum {
-    pub(crate) value: usize,
-}
-
-impl Sum {
-    pub(crate) fn add(&mut self, number: usize) {
-        self.value = self
-            .value
-            .wrapping_mul(1_099_511_628_211)
-            .wrapping_add(number);
-    }
-
-    pub(crate) fn add_all(&mut self, bytes: &[u8]) {
-        for byte in bytes {
-            self.add(usize::from(*byte));
+/// Takes a reading's answer in: 0, or the refusal's number and its values.
+pub(crate) fn add_read(sum: &mut Sum, fault: Option<ReadFault>) {
+    let Some(fault) = fault else {
+        sum.add(0);
+        return;
+    };
+    sum.add(usize::from(fault.number()));
+    match fault {
+        ReadFault::ShortWorking | ReadFault::NotARing => {}
+        ReadFault::Layout(fault) => sum.add(fault.place),
+        ReadFault::TooLow { wanted } | ReadFault::TooHigh { wanted } => sum.add(wanted as usize),
+        ReadFault::File {
+            epoch,
+            fault: FileFault::Wrap { index, .. },
+        } => {
+            sum.add(index);
+            sum.add(epoch as usize);
         }
-    }
-
-    /// What a reading tells: 0, or the refusal's number and its values.
-    pub(crate) fn add_told(&mut self, fault: Option<ReadFault>) {
-        let Some(fault) = fault else {
-            self.add(0);
-            return;
-        };
-        self.add(usize::from(fault.number()));
-        match fault {
-            ReadFault::ShortWorking | ReadFault::NotARing => {}
-            ReadFault::TooLow { wanted } | ReadFault::TooHigh { wanted } => {
-                self.add(wanted as usize)
-            }
-            ReadFault::ShutOut { node } => self.add(usize::from(node)),
-            ReadFault::File { epoch, fault } => {
-                match fault {
-                    FileFault::Layout { place } => self.add(place),
-                    FileFault::Wrap { index, .. } => self.add(index),
-                }
-                if let Some(epoch) = epoch {
-                    self.add(epoch as usize);
-                }
-            }
-        }
+        ReadFault::ShutOut { node } => sum.add(usize::from(node)),
     }
 }
 
+/// The sum of these bytes.
 pub(crate) fn sum_of(bytes: &[u8]) -> usize {
     let mut sum = Sum { value: 0 };
     sum.add_all(bytes);

@@ -2,31 +2,24 @@
 #![tactic(auto)]
 
 ghost use Rattle.std.specs.Prelude.{◌≡◌, ◌<◌, IfSome, length, replicate};
-ghost use Rattle.keys.specs.Names.{unmade};
-ghost use Rattle.tree.specs.Tree.{halved};
-ghost use Rattle.scanner.specs.Rings.{entry_at, entries, ring_bytes};
-ghost use Rattle.scanner.specs.Searches.{is_entry, entry_of};
+ghost use Rattle.keys.specs.Names.{unmade_key};
+ghost use Rattle.tree.specs.Tree.{ancestor};
+ghost use Rattle.player_rules.specs.Rings.{entry_at, entries, ring_bytes};
+ghost use Rattle.player_rules.specs.Searches.{is_entry, entry_of};
 ghost use Rattle.ring.specs.Rings.{with_entry};
 
 use byte_strings::{part_of, put};
 use keys::{KeyName, NodeKey};
+use player_rules::RING_BYTES;
 use std::array;
 use tree::parent;
 
-/// How many bytes a ring has.
-pub const RING_BYTES: usize = 288;
-
-// How many bytes an entry has: the epoch and the key.
+// The bytes of an entry: an epoch of 4 and a key of 32.
 const ENTRY_BYTES: usize = 36;
 
-const UNMADE: NodeKey = NodeKey {
-    made: 0,
-    key: [0; 32],
-};
-
-/// The node that so many halvings of the leaf give.
+/// The node that so many halvings of the leaf give: its own at 0, the root at 7.
 pub fn node_above(leaf: u8, halvings: usize) -> u8
-    ensures { result ≡ halved halvings leaf }
+    ensures { result ≡ ancestor halvings leaf }
 {
     let mut node = leaf;
     for _ in 0..halvings {
@@ -35,7 +28,7 @@ pub fn node_above(leaf: u8, halvings: usize) -> u8
     node
 }
 
-/// The entries of a ring, from the leaf's to the root's.
+/// The entries of a ring, from the leaf's to the root's. It holds keys: `clear` it before it goes.
 #[derive(Drop)]
 pub struct Ring {
     pub entries: [NodeKey; 8],
@@ -43,7 +36,7 @@ pub struct Ring {
 
 // The entry that stands at byte 36k.
 fn entry_at(bytes: &[u8], k: usize) -> NodeKey
-    requires length { length bytes.now ≡ 288 }
+    requires length { length bytes.now ≡ RING_BYTES }
     requires entry { k < 8 }
     ensures { result ≡ entry_at bytes.now k }
 {
@@ -55,7 +48,7 @@ fn entry_at(bytes: &[u8], k: usize) -> NodeKey
 
 // Writes entry k over the bytes of a ring.
 fn put_entry(entry: &NodeKey, k: usize, bytes: &mut [u8])
-    requires length { length bytes.old ≡ 288 }
+    requires length { length bytes.old ≡ RING_BYTES }
     requires entry { k < 8 }
     ensures written { bytes.new ≡ with_entry bytes.old k entry.now }
     ensures whole_key { length entry.now.key ≡ 32 }
@@ -64,10 +57,10 @@ fn put_entry(entry: &NodeKey, k: usize, bytes: &mut [u8])
     put(bytes, ENTRY_BYTES * k + 4, &entry.key);
 }
 
-// Writes entries over the bytes of a ring.
+// Writes entries over the bytes of a ring. The loop goes by index: each entry has its own place.
 #[tactic(auto, using(crate::proofs::Written::front_none, crate::proofs::Written::front_all))]
 fn put_entries(entries: &[NodeKey; 8], bytes: &mut [u8])
-    requires { length bytes.old ≡ 288 }
+    requires { length bytes.old ≡ RING_BYTES }
     ensures { bytes.new ≡ ring_bytes entries.now }
 {
     for k in 0..8 {
@@ -78,7 +71,7 @@ fn put_entries(entries: &[NodeKey; 8], bytes: &mut [u8])
 impl Ring {
     /// A copy of the ring in these bytes.
     pub fn of(bytes: &[u8]) -> Ring
-        requires { length bytes.now ≡ 288 }
+        requires { length bytes.now ≡ RING_BYTES }
         ensures { result.entries ≡ entries bytes.now }
     {
         Ring {
@@ -94,8 +87,8 @@ impl Ring {
         node_above(leaf, k) == opener.node && self.entries[k].made == opener.epoch
     }
 
-    /// The entry that is the opener, by node and epoch.
-    #[tactic(auto, unfolding(scanner::specs::Searches::entry_of))]
+    /// The first entry that is the opener, by node and epoch.
+    #[tactic(auto, unfolding(player_rules::specs::Searches::entry_of))]
     pub fn entry_of(&self, leaf: u8, opener: KeyName) -> Option<usize>
         ensures entry { result ≡ entry_of self.now.entries leaf opener }
         ensures range { IfSome result (λ k. k < 8) }
@@ -105,16 +98,16 @@ impl Ring {
 
     /// Writes the entries over the bytes of a ring.
     pub fn write_to(&self, bytes: &mut [u8])
-        requires { length bytes.old ≡ 288 }
+        requires { length bytes.old ≡ RING_BYTES }
         ensures { bytes.new ≡ ring_bytes self.now.entries }
     {
         put_entries(&self.entries, bytes);
     }
 
-    /// Overwrites the keys.
+    /// Overwrites the keys and epochs with zeros.
     pub fn clear(&mut self)
-        ensures { self.new.entries ≡ replicate 8 unmade }
+        ensures { self.new.entries ≡ replicate 8 unmade_key }
     {
-        self.entries.fill(UNMADE);
+        self.entries.fill(NodeKey::UNMADE);
     }
 }

@@ -1,6 +1,6 @@
--- The refusals of the server's calls: the number of each, and the values that are told with it.
+-- The refusals of the server's calls: the number of each, and the values that it carries.
 use Rattle.std.specs.Prelude.{[], ◌∷◌}
-use Rattle.refusal.specs.Refusals.{Refusal, no}
+use Rattle.refusal.specs.Refusals.{Refusal, refusal_with}
 use Rattle.server.specs.declared.fault.AdmitFault.{AdmitFault}
 use Rattle.server.specs.declared.fault.AdmitFault.TheVariants as admit
 use Rattle.server.specs.declared.fault.RemoveFault.{RemoveFault}
@@ -8,32 +8,34 @@ use Rattle.server.specs.declared.fault.RemoveFault.TheVariants as remove
 use Rattle.server.specs.declared.fault.CardFault.{CardFault}
 use Rattle.server.specs.declared.fault.CardFault.TheVariants as card
 use Rattle.server.specs.declared.fault.PublishFault.{PublishFault}
-use Rattle.server.specs.declared.fault.PublishFault.TheVariants.{NothingNoted, LastEpoch, ShortWorking, ShortMaterial, ShortPairs, ShortFile}
+use Rattle.server.specs.declared.fault.PublishFault.TheVariants.{NothingNoted, LastEpoch}
+use Rattle.server.specs.declared.fault.PublishFault.TheVariants.{ShortWorking, ShortMaterial}
+use Rattle.server.specs.declared.fault.PublishFault.TheVariants.{ShortPairs, ShortFile}
 
--- of the noting of an arrival
+-- why an arrival was not noted
 abbrev pub admit_refusal : AdmitFault → Refusal
-admit_refusal admit.NoSerial = no 1 []
-admit_refusal admit.NoCradle = no 2 []
-admit_refusal (admit.SerialHeld cradle) = no 3 (cradle ∷ [])
-admit_refusal (admit.CradleHeld serial) = no 4 (serial ∷ [])
+admit_refusal admit.NoSerial = refusal_with 1 []
+admit_refusal admit.NoCradle = refusal_with 2 []
+admit_refusal (admit.SerialHeld cradle) = refusal_with 3 (cradle ∷ [])
+admit_refusal (admit.CradleHeld serial) = refusal_with 4 (serial ∷ [])
 
--- of the noting of a departure
+-- why a departure was not noted
 abbrev pub remove_refusal : RemoveFault → Refusal
-remove_refusal remove.NoSerial = no 1 []
-remove_refusal remove.NotSeated = no 5 []
-remove_refusal remove.Departing = no 6 []
+remove_refusal remove.NoSerial = refusal_with 1 []
+remove_refusal remove.NotSeated = refusal_with 5 []
+remove_refusal remove.Departing = refusal_with 6 []
 
--- of the writing of a card
+-- why a card was not written
 abbrev pub card_refusal : CardFault → Refusal
-card_refusal card.NoSerial = no 1 []
-card_refusal card.NotSeated = no 5 []
-card_refusal (card.ShortCard needed) = no 12 (needed ∷ [])
+card_refusal card.NoSerial = refusal_with 1 []
+card_refusal card.NotSeated = refusal_with 5 []
+card_refusal (card.ShortCard needed) = refusal_with 12 (needed ∷ [])
 
--- of a publishing
+-- why nothing was published
 abbrev pub publish_refusal : PublishFault → Refusal
-publish_refusal NothingNoted = no 7 []
-publish_refusal LastEpoch = no 8 []
-publish_refusal ShortWorking = no 9 []
-publish_refusal (ShortMaterial needed) = no 10 (needed ∷ [])
-publish_refusal (ShortPairs needed) = no 11 (needed ∷ [])
-publish_refusal (ShortFile needed) = no 12 (needed ∷ [])
+publish_refusal NothingNoted = refusal_with 7 []
+publish_refusal LastEpoch = refusal_with 8 []
+publish_refusal ShortWorking = refusal_with 9 []
+publish_refusal (ShortMaterial needed) = refusal_with 10 (needed ∷ [])
+publish_refusal (ShortPairs needed) = refusal_with 11 (needed ∷ [])
+publish_refusal (ShortFile needed) = refusal_with 12 (needed ∷ [])

@@ -1,22 +1,19 @@
 //! The card of a scanner.
 ghost use Rattle.std.specs.Prelude.{◌≡◌, ◌∷◌, ◌++◌, length};
-ghost use Rattle.byte_strings.specs.Numbers.{big2, big4};
-ghost use Rattle.refusal.specs.Refusals.{told};
-ghost use Rattle.group.specs.Cards.{card_verdict, card_leaves};
+ghost use Rattle.byte_strings.specs.Numbers.{be_bytes2, be_bytes4};
+ghost use Rattle.refusal.specs.Refusals.{verdict_of};
+ghost use Rattle.server_rules.specs.Cards.{card_verdict, buffer_after_card};
 ghost use Rattle.server.specs.Refusals.{card_refusal};
 
 use crate::fault::CardFault;
-use crate::notes::{seat_of, serial};
-use group::State;
-use keys::NodeKey;
+use crate::notes::{seat_index, serial_of};
+use keys::{CARD_BYTES, NodeKey};
+use server_rules::State;
 
-/// How many bytes a card has.
-pub const CARD_BYTES: usize = 39;
-
-// The serial, the leaf, the epoch and the bytes of the leaf's key.
+// Fills the place of a card: serial 2 bytes, leaf 1, the epoch of the leaf's key 4, its bytes 32.
 fn put_card(serial: u16, leaf: u8, node: NodeKey, place: &mut [u8])
-    requires { length place.old ≡ 39 }
-    ensures { place.new ≡ big2 serial ++ (leaf ∷ (big4 node.made ++ node.key)) }
+    requires { length place.old ≡ CARD_BYTES }
+    ensures { place.new ≡ be_bytes2 serial ++ (leaf ∷ (be_bytes4 node.made ++ node.key)) }
 {
     let [high, low] = serial.to_be_bytes();
     let [a, b, c, d] = node.made.to_be_bytes();
@@ -25,13 +22,13 @@ fn put_card(serial: u16, leaf: u8, node: NodeKey, place: &mut [u8])
     key.copy_from_slice(&node.key);
 }
 
-/// Writes the card of a scanner to the front of `buffer`.
+/// Writes the card of a scanner that is in a cradle to the front of `buffer`.
 pub(crate) fn card(state: &State, number: u32, buffer: &mut [u8]) -> Result<(), CardFault>
-    ensures answer { told card_refusal result ≡ card_verdict state.now number buffer.old }
-    ensures written { buffer.new ≡ card_leaves state.now number buffer.old }
+    ensures answer { verdict_of card_refusal result ≡ card_verdict state.now number buffer.old }
+    ensures written { buffer.new ≡ buffer_after_card state.now number buffer.old }
 {
-    let serial = serial(number).ok_or(CardFault::NoSerial)?;
-    let index = seat_of(serial, state).ok_or(CardFault::NotSeated)?;
+    let serial = serial_of(number).ok_or(CardFault::NoSerial)?;
+    let index = seat_index(serial, state).ok_or(CardFault::NotSeated)?;
     if buffer.len() < CARD_BYTES {
         return Err(CardFault::ShortCard { needed: CARD_BYTES });
     }

@@ -1,11 +1,11 @@
 //! The refusals of the server's calls.
 ghost use Rattle.std.specs.Prelude.{◌≡◌};
-ghost use Rattle.tree.specs.Calls.{refusal_of as plan_refusal};
-ghost use Rattle.writer.specs.Refusals.{refusal_of as write_refusal};
+ghost use Rattle.tree.specs.Calls.{plan_refusal};
+ghost use Rattle.file_writer.specs.Refusals.{write_refusal};
 ghost use Rattle.server.specs.Refusals.{admit_refusal, remove_refusal, card_refusal, publish_refusal};
 
+use file_writer::WriteFault;
 use tree::PlanFault;
-use writer::WriteFault;
 
 /// Why an arrival was not noted.
 #[derive(Clone, Copy, PartialEq, Eq, Debug)]
@@ -41,7 +41,7 @@ pub enum RemoveFault {
     NoSerial,
     /// The scanner is in no cradle.
     NotSeated,
-    /// Its departure is noted already.
+    /// The scanner's departure is noted already.
     Departing,
 }
 
@@ -65,7 +65,7 @@ pub enum CardFault {
     NoSerial,
     /// The scanner is in no cradle.
     NotSeated,
-    /// The card does not fit in the buffer that was lent.
+    /// The card does not fit in the buffer that was lent, in bytes.
     ShortCard { needed: usize },
 }
 
@@ -91,11 +91,11 @@ pub enum PublishFault {
     LastEpoch,
     /// Fewer than 512 working bytes were lent.
     ShortWorking,
-    /// The material is shorter than what is to be drawn.
+    /// The material is shorter than what is to be drawn, in bytes.
     ShortMaterial { needed: usize },
-    /// The plan does not fit in the pair buffer that was lent.
+    /// The plan does not fit in the pair buffer that was lent, in pairs.
     ShortPairs { needed: usize },
-    /// The file does not fit in the file buffer that was lent.
+    /// The file does not fit in the file buffer that was lent, in bytes.
     ShortFile { needed: usize },
 }
 

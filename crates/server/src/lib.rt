@@ -2,15 +2,15 @@
 #![tactic(auto)]
 
 ghost use Rattle.std.specs.Prelude.{◌≡◌};
-ghost use Rattle.refusal.specs.Refusals.{told};
-ghost use Rattle.wrap.specs.Calls.{wiped};
-ghost use Rattle.group.specs.States.{new_state, group_key_of};
-ghost use Rattle.group.specs.Calls.{key_wrap, publishing, admit, remove, drop_notes, publish};
-ghost use Rattle.group.specs.Notes.{admit_verdict, remove_verdict};
-ghost use Rattle.group.specs.Cards.{card_verdict, card_leaves};
-ghost use Rattle.group.specs.Publishings.{publish_verdict, publish_pairs, publish_file};
-ghost use Rattle.group.specs.Steps.{after};
-ghost use Rattle.runs.specs.Law.{EveryRun, LawOf};
+ghost use Rattle.refusal.specs.Refusals.{verdict_of};
+ghost use Rattle.wrap.specs.Calls.{work_after};
+ghost use Rattle.server_rules.specs.States.{new_state, group_key_of};
+ghost use Rattle.server_rules.specs.Calls.{publishing, admit, remove, drop_notes, publish};
+ghost use Rattle.server_rules.specs.Notes.{admit_verdict, remove_verdict};
+ghost use Rattle.server_rules.specs.Cards.{card_verdict, buffer_after_card};
+ghost use Rattle.server_rules.specs.Publishings.{publish_verdict, pairs_after_publish, file_after_publish};
+ghost use Rattle.server_rules.specs.Steps.{server_after};
+ghost use Rattle.law.specs.Law.{EveryRun, LawHoldsFor};
 ghost use Rattle.server.specs.Refusals.{admit_refusal, remove_refusal, card_refusal, publish_refusal};
 
 mod card;
@@ -19,20 +19,19 @@ mod notes;
 mod publish;
 mod server;
 
-pub use card::CARD_BYTES;
 use cradles::Cradle;
 pub use fault::{AdmitFault, CardFault, PublishFault, RemoveFault};
-use group::{Published, State};
 use keys::NodeKey;
-pub use publish::LAST_EPOCH;
+pub use keys::{CARD_BYTES, LAST_EPOCH};
 pub use server::Server;
+use server_rules::{PublishReport, State};
 use tree::{Pair, Strategy};
 use wrap::Wrap;
 
 impl Server {
     /// A new server. Whatever is called on it, the group key of an epoch belongs to its members: it is reached by nobody else, and each
     /// of their players holds it.
-    #[tactic(auto, using(runs::proofs::EveryRun::every_run, runs::proofs::Servers::new_kept))]
+    #[tactic(auto, using(law::proofs::EveryRun::every_run, law::proofs::Servers::new_kept))]
     pub fn new() -> Server
         ensures server { result ≡ new_state }
         ensures belongs_to_members { EveryRun }
@@ -41,33 +40,30 @@ impl Server {
             state: State {
                 epoch: 0,
                 cradles: [Cradle::Empty; 128],
-                nodes: [NodeKey {
-                    made: 0,
-                    key: [0; 32],
-                }; 256],
+                nodes: [NodeKey::UNMADE; 256],
             },
         }
     }
 
     /// Notes that a scanner arrives at a cradle.
     pub fn admit(&mut self, serial: u32, cradle: u32) -> Result<(), AdmitFault>
-        ensures answer { told admit_refusal result ≡ admit_verdict self.old serial cradle }
-        ensures server { self.new ≡ after self.old (admit serial cradle) }
+        ensures answer { verdict_of admit_refusal result ≡ admit_verdict self.old serial cradle }
+        ensures server { self.new ≡ server_after self.old (admit serial cradle) }
     {
         notes::admit(&mut self.state, serial, cradle)
     }
 
     /// Notes that a scanner departs from its cradle.
     pub fn remove(&mut self, serial: u32) -> Result<(), RemoveFault>
-        ensures answer { told remove_refusal result ≡ remove_verdict self.old serial }
-        ensures server { self.new ≡ after self.old (remove serial) }
+        ensures answer { verdict_of remove_refusal result ≡ remove_verdict self.old serial }
+        ensures server { self.new ≡ server_after self.old (remove serial) }
     {
         notes::remove(&mut self.state, serial)
     }
 
     /// Clears all notes.
     pub fn drop_notes(&mut self)
-        ensures { self.new ≡ after self.old drop_notes }
+        ensures { self.new ≡ server_after self.old drop_notes }
     {
         notes::drop_notes(&mut self.state)
     }
@@ -82,28 +78,28 @@ impl Server {
         pairs: &mut [Pair],
         file: &mut [u8],
         work: &mut [u8],
-    ) -> Result<Published, PublishFault>
-        ensures answer { told publish_refusal result ≡ publish_verdict self.old
-            (publishing S.planned (key_wrap W.wrap_kind W.wrap_length W.sealed W.opened)
+    ) -> Result<PublishReport, PublishFault>
+        ensures answer { verdict_of publish_refusal result ≡ publish_verdict self.old
+            (publishing S.meaning W.meaning
             material.now pairs.old file.old work.old) }
-        ensures server { self.new ≡ after self.old
-            (publish (publishing S.planned (key_wrap W.wrap_kind W.wrap_length W.sealed W.opened)
+        ensures server { self.new ≡ server_after self.old
+            (publish (publishing S.meaning W.meaning
             material.now pairs.old file.old work.old)) }
-        ensures planned { pairs.new ≡ publish_pairs self.old
-            (publishing S.planned (key_wrap W.wrap_kind W.wrap_length W.sealed W.opened)
+        ensures planned { pairs.new ≡ pairs_after_publish self.old
+            (publishing S.meaning W.meaning
             material.now pairs.old file.old work.old) }
-        ensures written { file.new ≡ publish_file self.old
-            (publishing S.planned (key_wrap W.wrap_kind W.wrap_length W.sealed W.opened)
+        ensures written { file.new ≡ file_after_publish self.old
+            (publishing S.meaning W.meaning
             material.now pairs.old file.old work.old) }
-        ensures cleared { work.new ≡ wiped work.old }
+        ensures cleared { work.new ≡ work_after work.old }
     {
         publish::publish(&mut self.state, strategy, wrap, material, pairs, file, work)
     }
 
     /// Writes the card of a scanner that is in a cradle to the front of `buffer`.
     pub fn card(&self, serial: u32, buffer: &mut [u8]) -> Result<(), CardFault>
-        ensures answer { told card_refusal result ≡ card_verdict self.now serial buffer.old }
-        ensures written { buffer.new ≡ card_leaves self.now serial buffer.old }
+        ensures answer { verdict_of card_refusal result ≡ card_verdict self.now serial buffer.old }
+        ensures written { buffer.new ≡ buffer_after_card self.now serial buffer.old }
     {
         card::card(&self.state, serial, buffer)
     }
@@ -118,7 +114,7 @@ impl Server {
     /// The group key of the epoch: the root's key. There is none in epoch 0.
     pub fn group_key(&self) -> Option<[u8; 32]>
         ensures key { result ≡ group_key_of self.now }
-        ensures belongs_to_members { ∥ LawOf self.now ∥₁ }
+        ensures belongs_to_members { ∥ LawHoldsFor self.now ∥₁ }
     {
         (self.state.epoch > 0).then_some(self.state.nodes[1].key)
     }

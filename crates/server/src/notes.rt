@@ -1,87 +1,85 @@
 //! Serials and cradles as they come in, and the notes of a state's cradles.
-ghost use Rattle.std.specs.Prelude.{◌≡◌, ◌-◌, ◌<◌, IfSome, cond, Some, None};
-ghost use Rattle.refusal.specs.Refusals.{told};
-ghost use Rattle.group.specs.States.{is_it, seat_of, held_by, noted};
-ghost use Rattle.group.specs.Notes.{is_serial, is_cradle};
-ghost use Rattle.group.specs.Notes.{admit_verdict, remove_verdict};
-ghost use Rattle.group.specs.Calls.{admit, remove, drop_notes};
-ghost use Rattle.group.specs.Steps.{after};
+ghost use Rattle.std.specs.Prelude.{◌≡◌, ◌-◌, ◌<◌, IfSome, if◌then◌else◌, Some, None};
+ghost use Rattle.refusal.specs.Refusals.{verdict_of};
+ghost use Rattle.server_rules.specs.States.{is_that_serial, seat_index, held_cradle_index, has_notes};
+ghost use Rattle.tree.specs.declared.limits.TheConstants.{CRADLES};
+ghost use Rattle.keys.specs.Limits.{is_serial};
+ghost use Rattle.cradles.specs.Cradles.{is_cradle};
+ghost use Rattle.server_rules.specs.Notes.{admit_verdict, remove_verdict};
+ghost use Rattle.server_rules.specs.Calls.{admit, remove, drop_notes};
+ghost use Rattle.server_rules.specs.Steps.{server_after};
 ghost use Rattle.server.specs.Refusals.{admit_refusal, remove_refusal};
 
 use crate::fault::{AdmitFault, RemoveFault};
-use draws::without_notes;
-use group::State;
-use tree::Mark;
+use cradles::without_notes;
+use keys::LAST_SERIAL;
+use server_rules::State;
+use tree::{CRADLES, Mark};
 
-/// The serial that a number is.
-pub(crate) fn serial(number: u32) -> Option<u16>
-    ensures { result ≡ cond (is_serial number) (Some number) None }
+/// The serial that a number is; none, if it is not one of 1 to `LAST_SERIAL`.
+pub(crate) fn serial_of(number: u32) -> Option<u16>
+    ensures { result ≡ (if is_serial number then Some number else None) }
 {
-    match number {
-        1..=9999 => Some(number as u16),
-        _ => None,
-    }
+    let serial = u16::try_from(number).ok()?;
+    (1..=LAST_SERIAL).contains(&serial).then_some(serial)
 }
 
-/// The index of the cradle that a number is, counted from 0.
+/// The index of the cradle that a number is, counted from 0; none, if it is not one of 1 to `CRADLES`.
 pub(crate) fn cradle_index(number: u32) -> Option<usize>
-    ensures { result ≡ cond (is_cradle number) (Some (number - 1)) None }
+    ensures { result ≡ (if is_cradle number then Some (number - 1) else None) }
 {
-    match number {
-        1..=128 => Some(number as usize - 1),
-        _ => None,
+    if number < 1 || number as usize > CRADLES {
+        return None;
     }
+    Some(number as usize - 1)
 }
 
-fn is_it(serial: u16, it: Option<u16>) -> bool
-    ensures { result ≡ is_it serial it }
+fn is_that_serial(serial: u16, other: Option<u16>) -> bool
+    ensures { result ≡ is_that_serial serial other }
 {
-    match it {
-        Some(other) => other == serial,
-        None => false,
-    }
+    other == Some(serial)
 }
 
-/// The index of the cradle in which the scanner is.
-pub(crate) fn seat_of(serial: u16, state: &State) -> Option<usize>
-    ensures index { result ≡ seat_of serial state.now }
-    ensures range { IfSome result (λ i. i < 128) }
+/// The index of the cradle in which the scanner is, counted from 0.
+pub(crate) fn seat_index(serial: u16, state: &State) -> Option<usize>
+    ensures index { result ≡ seat_index serial state.now }
+    ensures range { IfSome result (λ i. i < CRADLES) }
 {
     state
         .cradles
         .iter()
-        .position(|cradle| is_it(serial, cradle.seated()))
+        .position(|cradle| is_that_serial(serial, cradle.occupant()))
 }
 
-/// The index of the cradle whose holder it is.
-pub(crate) fn held_by(serial: u16, state: &State) -> Option<usize>
-    ensures index { result ≡ held_by serial state.now }
-    ensures range { IfSome result (λ i. i < 128) }
+/// The index of the cradle that the scanner holds, counted from 0.
+pub(crate) fn held_cradle_index(serial: u16, state: &State) -> Option<usize>
+    ensures index { result ≡ held_cradle_index serial state.now }
+    ensures range { IfSome result (λ i. i < CRADLES) }
 {
     state
         .cradles
         .iter()
-        .position(|cradle| is_it(serial, cradle.holder()))
+        .position(|cradle| is_that_serial(serial, cradle.holder()))
 }
 
-/// Whether something is noted.
-pub(crate) fn noted(state: &State) -> bool
-    ensures { result ≡ noted state.now }
+/// Whether an arrival or a departure is noted.
+pub(crate) fn has_notes(state: &State) -> bool
+    ensures { result ≡ has_notes state.now }
 {
     state
         .cradles
         .iter()
-        .any(|cradle| Mark::Change.on(cradle.code()))
+        .any(|cradle| Mark::Change.is_mark_of(cradle.code()))
 }
 
 /// Notes an arrival.
 pub(crate) fn admit(state: &mut State, number: u32, cradle: u32) -> Result<(), AdmitFault>
-    ensures answer { told admit_refusal result ≡ admit_verdict state.old number cradle }
-    ensures server { state.new ≡ after state.old (admit number cradle) }
+    ensures answer { verdict_of admit_refusal result ≡ admit_verdict state.old number cradle }
+    ensures server { state.new ≡ server_after state.old (admit number cradle) }
 {
-    let serial = serial(number).ok_or(AdmitFault::NoSerial)?;
+    let serial = serial_of(number).ok_or(AdmitFault::NoSerial)?;
     let index = cradle_index(cradle).ok_or(AdmitFault::NoCradle)?;
-    if let Some(held) = held_by(serial, state) {
+    if let Some(held) = held_cradle_index(serial, state) {
         return Err(AdmitFault::SerialHeld {
             cradle: held as u8 + 1,
         });
@@ -96,13 +94,13 @@ pub(crate) fn admit(state: &mut State, number: u32, cradle: u32) -> Result<(), A
 
 /// Notes a departure.
 pub(crate) fn remove(state: &mut State, number: u32) -> Result<(), RemoveFault>
-    ensures answer { told remove_refusal result ≡ remove_verdict state.old number }
-    ensures server { state.new ≡ after state.old (remove number) }
+    ensures answer { verdict_of remove_refusal result ≡ remove_verdict state.old number }
+    ensures server { state.new ≡ server_after state.old (remove number) }
 {
-    let serial = serial(number).ok_or(RemoveFault::NoSerial)?;
-    let index = seat_of(serial, state).ok_or(RemoveFault::NotSeated)?;
+    let serial = serial_of(number).ok_or(RemoveFault::NoSerial)?;
+    let index = seat_index(serial, state).ok_or(RemoveFault::NotSeated)?;
     let cradle = state.cradles[index];
-    if cradle.departs() {
+    if cradle.has_departure() {
         return Err(RemoveFault::Departing);
     }
     state.cradles[index] = cradle.with_departure();
@@ -111,7 +109,7 @@ pub(crate) fn remove(state: &mut State, number: u32) -> Result<(), RemoveFault>
 
 /// Clears all notes.
 pub(crate) fn drop_notes(state: &mut State)
-    ensures { state.new ≡ after state.old drop_notes }
+    ensures { state.new ≡ server_after state.old drop_notes }
 {
     state.cradles = without_notes(&state.cradles);
 }

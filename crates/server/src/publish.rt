@@ -1,42 +1,41 @@
 //! Publishing: a change of keys from the notes, sealed as a rekey file.
 ghost use Rattle.std.specs.Prelude.{◌≡◌, ◌+◌, ◌<◌, ◌≤◌, length, OnOk, IfOk};
-ghost use Rattle.refusal.specs.Refusals.{told};
-ghost use Rattle.wrap.specs.Calls.{wiped};
+ghost use Rattle.refusal.specs.Refusals.{verdict_of};
+ghost use Rattle.wrap.specs.Calls.{work_after};
 ghost use Rattle.tree.specs.Rows.{changed_nodes};
-ghost use Rattle.keys.specs.Names.{held};
-ghost use Rattle.rekey.specs.Files.{written, file_size};
-ghost use Rattle.rekey.specs.Sealing.{rekey_of};
-ghost use Rattle.group.specs.States.{row};
-ghost use Rattle.group.specs.Draws.{drawn};
-ghost use Rattle.group.specs.Calls.{key_wrap, publishing, publish};
-ghost use Rattle.group.specs.Publishings.{size_of, due_verdict, publish_verdict, publish_pairs, publish_file};
-ghost use Rattle.group.specs.Steps.{published, after};
+ghost use Rattle.keys.specs.Names.{keys_in};
+ghost use Rattle.file_rules.specs.Files.{file_bytes, file_size};
+ghost use Rattle.file_rules.specs.Sealing.{rekey_of};
+ghost use Rattle.server_rules.specs.States.{row};
+ghost use Rattle.cradles.specs.Draws.{drawn_size};
+ghost use Rattle.server_rules.specs.Calls.{publishing, publish};
+ghost use Rattle.server_rules.specs.Publishings.{publishing_size, due_verdict, publish_verdict, pairs_after_publish, file_after_publish};
+ghost use Rattle.server_rules.specs.Steps.{server_of_next_epoch, server_after};
 ghost use Rattle.server.specs.Refusals.{publish_refusal};
-ghost use Rattle.server.specs.Prepared.{numbers_of};
+ghost use Rattle.server.specs.Prepared.{prepared_verdict};
+ghost use Rattle.tree.specs.declared.limits.TheConstants.{MOST_PAIRS};
 
 use crate::fault::PublishFault;
-use crate::notes::noted;
-use draws::{Draws, carried_out, row};
-use group::{Published, State};
+use crate::notes::has_notes;
+use cradles::{Draws, after_change, row};
+use file_writer::{Change, file_len};
+use keys::LAST_EPOCH;
+use server_rules::{PublishReport, State};
 use tree::{Pair, Strategy};
 use wrap::{WORKING_BYTES, Working, Wrap};
-use writer::{Change, file_len};
 
-/// The last epoch of a server.
-pub const LAST_EPOCH: u32 = 1_000_000;
-
-/// A publishing that nothing refuses any more: what it draws, and its numbers. Its plan is in the pair buffer.
+/// A publishing that nothing refuses any more: what it draws, and what it reports. Its plan is in the pair buffer.
 #[derive(Drop)]
 pub(crate) struct Prepared {
     draws: Draws,
-    numbers: Published,
+    report: PublishReport,
 }
 
 // Something is noted, and there is an epoch left.
-fn due(state: &State) -> Result<(), PublishFault>
-    ensures { told publish_refusal result ≡ due_verdict state.now }
+fn check_due(state: &State) -> Result<(), PublishFault>
+    ensures { verdict_of publish_refusal result ≡ due_verdict state.now }
 {
-    if !noted(state) {
+    if !has_notes(state) {
         return Err(PublishFault::NothingNoted);
     }
     if state.epoch >= LAST_EPOCH {
@@ -45,15 +44,15 @@ fn due(state: &State) -> Result<(), PublishFault>
     Ok(())
 }
 
-// The notes carried out, and new keys for the nodes.
-fn renewed(state: &State, draws: &Draws, material: &[u8]) -> State
-    requires early { state.now.epoch < 1000000 }
-    requires draws { draws.now.row ≡ row state.now }
-    requires enough { drawn draws.now.row ≤ length material.now }
-    ensures { result ≡ published state.now material.now }
+// The server after a change: the notes carried out, and new keys for the nodes.
+fn server_of_next_epoch(state: &State, draws: &Draws, material: &[u8]) -> State
+    requires early { state.now.epoch < LAST_EPOCH }
+    requires draws { draws.now ≡ row state.now }
+    requires enough { drawn_size draws.now ≤ length material.now }
+    ensures { result ≡ server_of_next_epoch state.now material.now }
 {
     let epoch = state.epoch + 1;
-    let cradles = carried_out(&state.cradles);
+    let cradles = after_change(&state.cradles);
     let mut nodes = state.nodes;
     draws.renew(&mut nodes, material, epoch);
     State {
@@ -73,20 +72,20 @@ pub(crate) fn prepare<S: Strategy, W: Wrap>(
     file: &[u8],
     work: &Working<'_>,
 ) -> Result<Prepared, PublishFault>
-    ensures answer { numbers_of result ≡ publish_verdict state.now
-        (publishing S.planned (key_wrap W.wrap_kind W.wrap_length W.sealed W.opened)
+    ensures answer { prepared_verdict result ≡ publish_verdict state.now
+        (publishing S.meaning W.meaning
         material.now pairs.old file.now work.now.bytes.now) }
-    ensures planned { pairs.new ≡ publish_pairs state.now
-        (publishing S.planned (key_wrap W.wrap_kind W.wrap_length W.sealed W.opened)
+    ensures planned { pairs.new ≡ pairs_after_publish state.now
+        (publishing S.meaning W.meaning
         material.now pairs.old file.now work.now.bytes.now) }
-    ensures room { IfOk result (λ it. it.numbers.bytes ≡ size_of state.now
-        (publishing S.planned (key_wrap W.wrap_kind W.wrap_length W.sealed W.opened)
+    ensures room { IfOk result (λ it. it.report.bytes ≡ publishing_size state.now
+        (publishing S.meaning W.meaning
         material.now pairs.old file.now work.now.bytes.now)) }
-    ensures draws { IfOk result (λ it. it.draws.row ≡ row state.now) }
-    ensures early { OnOk result (state.now.epoch < 1000000) }
-    ensures enough { OnOk result (drawn (row state.now) ≤ length material.now) }
+    ensures draws { IfOk result (λ it. it.draws ≡ row state.now) }
+    ensures early { OnOk result (state.now.epoch < LAST_EPOCH) }
+    ensures enough { OnOk result (drawn_size (row state.now) ≤ length material.now) }
 {
-    due(state)?;
+    check_due(state)?;
     if work.bytes.len() < WORKING_BYTES {
         return Err(PublishFault::ShortWorking);
     }
@@ -101,13 +100,13 @@ pub(crate) fn prepare<S: Strategy, W: Wrap>(
     if file.len() < bytes {
         return Err(PublishFault::ShortFile { needed: bytes });
     }
-    let numbers = Published {
+    let report = PublishReport {
         epoch: state.epoch + 1,
         wraps,
         bytes,
         drawn,
     };
-    Ok(Prepared { draws, numbers })
+    Ok(Prepared { draws, report })
 }
 
 /// Writes the file of a prepared publishing over the whole of `file`, carries out the notes, and clears `work`.
@@ -120,20 +119,20 @@ pub(crate) fn finish<W: Wrap>(
     file: &mut [u8],
     work: &mut [u8],
 )
-    requires draws { prepared.now.draws.row ≡ row state.old }
-    requires early { state.old.epoch < 1000000 }
-    requires enough { drawn (row state.old) ≤ length material.now }
-    requires few_pairs { length plan.now ≤ 896 }
+    requires draws { prepared.now.draws ≡ row state.old }
+    requires early { state.old.epoch < LAST_EPOCH }
+    requires enough { drawn_size (row state.old) ≤ length material.now }
+    requires few_pairs { length plan.now ≤ MOST_PAIRS }
     requires room { length file.old
-        ≡ file_size W.wrap_length (length (changed_nodes (row state.old))) (length plan.now) }
-    requires working { 512 ≤ length work.old }
-    ensures server { state.new ≡ published state.old material.now }
-    ensures written { file.new ≡ written (rekey_of W.wrap_kind W.sealed (state.old.epoch + 1)
-        (changed_nodes (row state.old)) plan.now
-        (held state.old.nodes) (held (published state.old material.now).nodes)) }
-    ensures cleared { work.new ≡ wiped work.old }
+        ≡ file_size W.meaning.length (length (changed_nodes (row state.old))) (length plan.now) }
+    requires working { WORKING_BYTES ≤ length work.old }
+    ensures server { state.new ≡ server_of_next_epoch state.old material.now }
+    ensures written { file.new ≡ file_bytes (rekey_of W.meaning.kind W.meaning.seals
+        (state.old.epoch + 1) (changed_nodes (row state.old)) plan.now
+        (keys_in state.old.nodes) (keys_in (server_of_next_epoch state.old material.now).nodes)) }
+    ensures cleared { work.new ≡ work_after work.old }
 {
-    let next = renewed(state, &prepared.draws, material);
+    let next = server_of_next_epoch(state, &prepared.draws, material);
     let change = Change {
         epoch: next.epoch,
         nodes: prepared.draws.changed(),
@@ -154,24 +153,24 @@ pub(crate) fn publish<S: Strategy, W: Wrap>(
     pairs: &mut [Pair],
     file: &mut [u8],
     work: &mut [u8],
-) -> Result<Published, PublishFault>
-    ensures answer { told publish_refusal result ≡ publish_verdict state.old
-        (publishing S.planned (key_wrap W.wrap_kind W.wrap_length W.sealed W.opened)
+) -> Result<PublishReport, PublishFault>
+    ensures answer { verdict_of publish_refusal result ≡ publish_verdict state.old
+        (publishing S.meaning W.meaning
         material.now pairs.old file.old work.old) }
-    ensures server { state.new ≡ after state.old
-        (publish (publishing S.planned (key_wrap W.wrap_kind W.wrap_length W.sealed W.opened)
+    ensures server { state.new ≡ server_after state.old
+        (publish (publishing S.meaning W.meaning
         material.now pairs.old file.old work.old)) }
-    ensures planned { pairs.new ≡ publish_pairs state.old
-        (publishing S.planned (key_wrap W.wrap_kind W.wrap_length W.sealed W.opened)
+    ensures planned { pairs.new ≡ pairs_after_publish state.old
+        (publishing S.meaning W.meaning
         material.now pairs.old file.old work.old) }
-    ensures written { file.new ≡ publish_file state.old
-        (publishing S.planned (key_wrap W.wrap_kind W.wrap_length W.sealed W.opened)
+    ensures written { file.new ≡ file_after_publish state.old
+        (publishing S.meaning W.meaning
         material.now pairs.old file.old work.old) }
-    ensures cleared { work.new ≡ wiped work.old }
+    ensures cleared { work.new ≡ work_after work.old }
 {
     let guard = Working { bytes: work };
     let prepared = prepare(state, strategy, wrap, material, pairs, file, &guard)?;
-    let Published { wraps, bytes, .. } = prepared.numbers;
+    let PublishReport { wraps, bytes, .. } = prepared.report;
     finish(
         state,
         &prepared,
@@ -181,5 +180,5 @@ pub(crate) fn publish<S: Strategy, W: Wrap>(
         &mut file[..bytes],
         guard.bytes,
     );
-    Ok(prepared.numbers)
+    Ok(prepared.report)
 }

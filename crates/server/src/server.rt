@@ -1,5 +1,5 @@
 //! A server.
-use group::State;
+use server_rules::State;
 use std::marker::Model;
 
 /// The key server of a site: its epoch, who is in its cradles and what is noted for them, and the keys of the tree.
@@ -9,14 +9,14 @@ pub struct Server {
 }
 
 impl Model for Server {
-    ghost use Rattle.group.specs.declared.state.State.{State};
-    ghost use Rattle.group.specs.Sound.{Sound};
-    ghost use Rattle.runs.specs.Runs.{FromRun};
+    ghost use Rattle.server_rules.specs.declared.state.State.{State};
+    ghost use Rattle.server_rules.specs.Sound.{IsSoundServer};
+    ghost use Rattle.law.specs.Runs.{ComesFromRun};
 
     ghost Value = { State };
 
     ghost view = { λ s. s.state };
 
     // What every server keeps; and it comes from calls on a new server, so all that holds of runs holds of it.
-    ghost invariant = { λ s. Sound s.state × ∥ FromRun s.state ∥₁ };
+    ghost invariant = { λ s. IsSoundServer s.state × ∥ ComesFromRun s.state ∥₁ };
 }

@@ -1,5 +1,5 @@
 //! Cards: what is refused, and what a card leaves of a buffer.
-use crate::site::{BLANK, card, published, told, view_of};
+use crate::site::{BLANK, card, publish, report, view_of};
 use kw::KeyWrap;
 use server::{CardFault, Server};
 use strategies::KeyOriented;
@@ -9,12 +9,12 @@ fn cards_of_those_who_are_seated(rt: HostRuntime) {
     let rt = &rt;
     let mut server = Server::new();
     assert!(rt; server.admit(1, 1).is_ok());
-    published(
+    publish(
         rt,
         &mut server,
         &KeyOriented::default(),
         &KeyWrap,
-        told(1, 7, 339, 256),
+        report(1, 7, 339, 256),
     );
     assert!(rt; server.admit(2, 2).is_ok());
     let before = view_of(&server);

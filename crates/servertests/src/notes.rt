@@ -1,6 +1,6 @@
 //! Notes: which are refused, that dropped ones are gone, and scanners that depart and arrive in one change.
 use crate::bytes::{CARD_1, CARD_3, RETURNED};
-use crate::site::{card, published, stay, told, view_of};
+use crate::site::{card, publish, report, stay, view_of};
 use kw::KeyWrap;
 use server::{AdmitFault, PublishFault, RemoveFault, Server};
 use siv::Siv;
@@ -42,12 +42,12 @@ fn arrivals_are_refused(rt: HostRuntime) {
     for (serial, cradle, fault, number) in held {
         no_arrival(rt, &mut server, serial, cradle, fault, number);
     }
-    published(
+    publish(
         rt,
         &mut server,
         &Star::default(),
         &KeyWrap,
-        told(1, 14, 667, 480),
+        report(1, 14, 667, 480),
     );
     for (serial, cradle, fault, number) in held {
         no_arrival(rt, &mut server, serial, cradle, fault, number);
@@ -64,12 +64,12 @@ fn arrivals_are_refused(rt: HostRuntime) {
     for (serial, cradle, fault, number) in held {
         no_arrival(rt, &mut server, serial, cradle, fault, number);
     }
-    published(
+    publish(
         rt,
         &mut server,
         &Star::default(),
         &KeyWrap,
-        told(2, 14, 667, 480),
+        report(2, 14, 667, 480),
     );
     assert!(rt; stay(&server, 1) == Some((255, 2)) && stay(&server, 2) == Some((128, 2)));
     assert!(rt; stay(&server, 3).is_none() && stay(&server, 9_999).is_none());
@@ -87,12 +87,12 @@ fn departures_are_refused(rt: HostRuntime) {
     let rt = &rt;
     let mut server = Server::new();
     assert!(rt; server.admit(1, 1).is_ok());
-    published(
+    publish(
         rt,
         &mut server,
         &Star::default(),
         &KeyWrap,
-        told(1, 7, 339, 256),
+        report(1, 7, 339, 256),
     );
     for serial in [0, 10_000, 65_537] {
         no_departure(rt, &mut server, serial, RemoveFault::NoSerial, 1);
@@ -106,12 +106,12 @@ fn departures_are_refused(rt: HostRuntime) {
     no_departure(rt, &mut server, 1, RemoveFault::Departing, 6);
     assert!(rt; server.admit(1, 1).is_ok());
     no_departure(rt, &mut server, 1, RemoveFault::Departing, 6);
-    published(
+    publish(
         rt,
         &mut server,
         &Star::default(),
         &KeyWrap,
-        told(2, 14, 661, 288),
+        report(2, 14, 661, 288),
     );
     assert!(rt; stay(&server, 1) == Some((128, 2)) && stay(&server, 2) == Some((129, 2)));
 }
@@ -121,12 +121,12 @@ fn dropped_notes_are_gone(rt: HostRuntime) {
     let rt = &rt;
     let mut server = Server::new();
     assert!(rt; server.admit(1, 1).is_ok());
-    published(
+    publish(
         rt,
         &mut server,
         &Star::default(),
         &KeyWrap,
-        told(1, 7, 339, 256),
+        report(1, 7, 339, 256),
     );
     let before = view_of(&server);
     assert!(rt;
@@ -155,12 +155,12 @@ fn dropped_notes_are_gone(rt: HostRuntime) {
     );
     no_departure(rt, &mut server, 2, RemoveFault::NotSeated, 5);
     assert!(rt; server.admit(2, 3).is_ok() && server.remove(1).is_ok());
-    published(
+    publish(
         rt,
         &mut server,
         &Star::default(),
         &KeyWrap,
-        told(2, 7, 340, 288),
+        report(2, 7, 340, 288),
     );
     assert!(rt; stay(&server, 1).is_none() && stay(&server, 2) == Some((130, 2)));
 }
@@ -173,10 +173,10 @@ fn departed_and_back_in_one_change(rt: HostRuntime) {
     for n in [1, 2, 3] {
         assert!(rt; server.admit(n, n).is_ok());
     }
-    published(rt, &mut server, &strategy, &Siv, told(1, 10, 558, 352));
+    publish(rt, &mut server, &strategy, &Siv, report(1, 10, 558, 352));
     assert!(rt; server.remove(1).is_ok() && server.remove(3).is_ok());
     assert!(rt; server.admit(3, 3).is_ok() && server.admit(1, 4).is_ok());
-    let file = published(rt, &mut server, &strategy, &Siv, told(2, 10, 558, 320));
+    let file = publish(rt, &mut server, &strategy, &Siv, report(2, 10, 558, 320));
     assert!(rt; file.starts_with(&RETURNED));
     assert!(rt; card(&server, 1) == Some(CARD_1) && card(&server, 3) == Some(CARD_3));
     assert_eq!(rt; stay(&server, 2), Some((129, 1)));

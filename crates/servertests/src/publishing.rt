@@ -1,22 +1,23 @@
 //! Publishings that are refused, and what they leave.
-use crate::site::{BLANK, NO_PAIR, material, published, told, view_of};
-use group::Published;
+use crate::site::{BLANK, NO_PAIR, material, publish, report, view_of};
 use kw::KeyWrap;
 use server::{PublishFault, Server};
+use server_rules::PublishReport;
 use std::process::Abort;
 use strategies::KeyOriented;
 use tree::{Opener, Pair};
+use wrap::WORKING_BYTES;
 
 // Cradle 1 is filled, in epoch 1.
 fn one_seated(rt: &impl Abort) -> Server {
     let mut server = Server::new();
     assert!(rt; server.admit(1, 1).is_ok());
-    published(
+    publish(
         rt,
         &mut server,
         &KeyOriented::default(),
         &KeyWrap,
-        told(1, 7, 339, 256),
+        report(1, 7, 339, 256),
     );
     server
 }
@@ -29,12 +30,12 @@ struct Lengths {
     work: usize,
 }
 
-// Publishes with so much of everything. Where it is refused, nothing is written but zeros to 512 working bytes or more.
+// Publishes with so much of everything. Where it is refused, nothing is written but zeros to enough working bytes.
 fn publish_with(
     rt: &impl Abort,
     server: &mut Server,
     lengths: Lengths,
-) -> Result<Published, PublishFault> {
+) -> Result<PublishReport, PublishFault> {
     let Lengths {
         material: drawn,
         pairs: planned,
@@ -55,7 +56,7 @@ fn publish_with(
         &mut file[..bytes],
         &mut work[..lent],
     );
-    let left = if lent < 512 { 5 } else { 0 };
+    let left = if lent < WORKING_BYTES { 5 } else { 0 };
     assert!(rt; work.iter().take(lent).all(|byte| *byte == left));
     if done.is_err() {
         assert!(rt; pairs == [NO_PAIR; 32] && file == [BLANK; 700]);
@@ -103,7 +104,7 @@ fn one_check_after_the_other(rt: HostRuntime) {
         work: 512,
     };
     let done = publish_with(rt, &mut server, lengths);
-    assert_eq!(rt; done, Ok(told(2, 14, 661, 256)));
+    assert_eq!(rt; done, Ok(report(2, 14, 661, 256)));
 }
 
 #[test]
@@ -113,6 +114,7 @@ fn a_file_without_room_leaves_the_plan(rt: HostRuntime) {
     assert!(rt; server.admit(2, 2).is_ok());
     let before = view_of(&server);
     let mut plan = [NO_PAIR; 20];
+    // By index: the two pairs of a node stand side by side.
     for i in 0..7 {
         let n = 64 >> i;
         plan[2 * i] = Pair {
@@ -141,5 +143,11 @@ fn a_file_without_room_leaves_the_plan(rt: HostRuntime) {
     assert_eq!(rt; fault.number(), 12);
     assert!(rt; pairs == plan && file == [BLANK; 660] && work == [0; 512]);
     assert!(rt; view_of(&server) == before);
-    published(rt, &mut server, &strategy, &KeyWrap, told(2, 14, 661, 256));
+    publish(
+        rt,
+        &mut server,
+        &strategy,
+        &KeyWrap,
+        report(2, 14, 661, 256),
+    );
 }

@@ -1,8 +1,9 @@
 //! A server under test: what can be seen of it, and a publishing into buffers with room.
-use group::Published;
+use file_reader::RekeyFile;
 use layout::check;
-use reader::RekeyFile;
-use server::Server;
+use server::{CARD_BYTES, Server};
+use server_rules::PublishReport;
+use std::array;
 use std::process::Abort;
 use tree::{Opener, Pair, Strategy};
 use wrap::Wrap;
@@ -21,16 +22,12 @@ pub(crate) const NO_PAIR: Pair = Pair {
 
 /// The material of the publishing that begins an epoch.
 pub(crate) fn material(epoch: u8) -> [u8; 1024] {
-    let mut bytes = [0u8; 1024];
-    for i in 0..1024 {
-        bytes[i] = ((7 * i + 3 * usize::from(epoch)) % 251) as u8;
-    }
-    bytes
+    array::from_fn(|i| ((7 * i + 3 * usize::from(epoch)) % 251) as u8)
 }
 
-/// What a publishing tells.
-pub(crate) fn told(epoch: u32, wraps: usize, bytes: usize, drawn: usize) -> Published {
-    Published {
+/// What a publishing reports.
+pub(crate) fn report(epoch: u32, wraps: usize, bytes: usize, drawn: usize) -> PublishReport {
+    PublishReport {
         epoch,
         wraps,
         bytes,
@@ -39,8 +36,8 @@ pub(crate) fn told(epoch: u32, wraps: usize, bytes: usize, drawn: usize) -> Publ
 }
 
 /// The card of a scanner; nothing where there is none.
-pub(crate) fn card(server: &Server, serial: u32) -> Option<[u8; 39]> {
-    let mut card = [0u8; 39];
+pub(crate) fn card(server: &Server, serial: u32) -> Option<[u8; CARD_BYTES]> {
+    let mut card = [0u8; CARD_BYTES];
     server.card(serial, &mut card).ok()?;
     Some(card)
 }
@@ -50,7 +47,7 @@ pub(crate) fn card(server: &Server, serial: u32) -> Option<[u8; 39]> {
 pub(crate) struct View {
     epoch: u32,
     group_key: Option<[u8; 32]>,
-    cards: [Option<[u8; 39]>; 5],
+    cards: [Option<[u8; CARD_BYTES]>; 5],
 }
 
 pub(crate) fn view_of(server: &Server) -> View {
@@ -69,12 +66,12 @@ pub(crate) fn stay(server: &Server, serial: u32) -> Option<(u8, u32)> {
 }
 
 /// Publishes, looks at all that a publishing leaves, and answers the file's buffer: the file, and then blank bytes.
-pub(crate) fn published<S: Strategy, W: Wrap>(
+pub(crate) fn publish<S: Strategy, W: Wrap>(
     rt: &impl Abort,
     server: &mut Server,
     strategy: &S,
     wrap: &W,
-    want: Published,
+    want: PublishReport,
 ) -> [u8; ROOM] {
     assert!(rt; want.epoch <= 9 && want.wraps <= 32 && want.bytes <= ROOM);
     assert!(rt; 32 <= want.drawn && want.drawn <= 1024);

@@ -1,28 +1,12 @@
 //! Shows what stands in a rekey file, or where its first fault is.
 #![tactic(auto)]
 
-ghost use Rattle.std.specs.Prelude.{◌≡◌, true, IfNone, option_map};
-ghost use Rattle.rekey.specs.Layout.{layout_fault, accepted};
-
-use kw::KeyWrap;
-use layout::{FileFault, check};
-use reader::{FileWrap, RekeyFile};
-use siv::Siv;
+use file_reader::{FileWrap, RekeyFile};
+use kinds::{Kind, WrapJob};
+use layout::check;
 use std::io::Read;
 use std::{env, io};
-use wrap::{Kind, Wrap};
-
-// The number and the place of the first fault; a check is refused for nothing else.
-fn first_fault<W: Wrap>(wrap: &W, bytes: &[u8]) -> Option<(u8, usize)>
-    ensures fault { result ≡ option_map (λ place. (15, place)) (layout_fault W.wrap_kind W.wrap_length bytes.now) }
-    ensures accepts { IfNone result (accepted W.wrap_length bytes.now ≡ true) }
-{
-    let fault = check(wrap, bytes).err()?;
-    match fault {
-        FileFault::Layout { place } => Some((fault.number(), place)),
-        FileFault::Wrap { .. } => unreachable!(),
-    }
-}
+use wrap::Wrap;
 
 fn show_nodes(rt: &HostRuntime, nodes: &[u8]) -> io::Result<()> {
     print!(rt; "nodes")?;
@@ -42,7 +26,9 @@ fn show_wrap(rt: &HostRuntime, wrap: FileWrap<'_>) -> io::Result<()> {
 }
 
 fn show_file<W: Wrap>(rt: &HostRuntime, wrap: &W, bytes: &[u8]) -> io::Result<()> {
-    if let Some((number, place)) = first_fault(wrap, bytes) {
+    if let Err(fault) = check(wrap, bytes) {
+        let number = fault.number();
+        let place = fault.place;
         return println!(rt; "no {number} {place}");
     }
     let file = RekeyFile::over(wrap, bytes);
@@ -57,6 +43,21 @@ fn show_file<W: Wrap>(rt: &HostRuntime, wrap: &W, bytes: &[u8]) -> io::Result<()
         show_wrap(rt, wrap)?;
     }
     Ok(())
+}
+
+// A file to be shown with the wrap of whichever kind is asked for.
+#[derive(Clone, Copy)]
+struct ShowFile<'a> {
+    rt: &'a HostRuntime,
+    bytes: &'a [u8],
+}
+
+impl WrapJob for ShowFile<'_> {
+    type Output = io::Result<()>;
+
+    fn run<W: Wrap>(&mut self, wrap: &W) -> io::Result<()> {
+        show_file(self.rt, wrap, self.bytes)
+    }
 }
 
 // The kind that the one argument names.
@@ -76,11 +77,11 @@ fn run(rt: &HostRuntime) -> anyhow::Result<()> {
     };
     let mut bytes = Vec::new(heap);
     rt.stdin().read_to_end(&mut bytes)?;
-    // There are these two kinds and no others, so a match is plainest.
-    match kind {
-        Kind::Rfc3394 => show_file(rt, &KeyWrap, bytes.as_slice())?,
-        Kind::Rfc5297 => show_file(rt, &Siv, bytes.as_slice())?,
-    }
+    let mut job = ShowFile {
+        rt,
+        bytes: bytes.as_slice(),
+    };
+    kind.run(&mut job)?;
     Ok(())
 }
 

@@ -1,8 +1,8 @@
--- What is known of a site at work.
+-- What is known of a site at work. Files are the newest first.
 use Rattle.std.specs.Prelude.{◌≡◌, ℕ, List, [], ◌∷◌}
-use Rattle.group.specs.declared.state.State.{State}
-use Rattle.group.specs.Calls.{Call}
-use Rattle.runs.specs.Runs.{Edition, run, AllGiven}
+use Rattle.server_rules.specs.declared.state.State.{State}
+use Rattle.server_rules.specs.Calls.{Call}
+use Rattle.law.specs.Runs.{Edition, site_of, AllLawfullyGiven}
 
 -- the bytes of the newest of these files; none where there is no file
 abbrev pub newest_bytes : List Edition → List ℕ
@@ -16,19 +16,19 @@ former_bytes (x ∷ earlier) = newest_bytes earlier
 
 -- the server is what calls have made of a new one, and these are the bytes of the two newest files
 -- that it published, byte for byte
-pub record AtWork (server : State) (file former : List ℕ) : Type 0 where
+pub record IsAtWork (server : State) (file former : List ℕ) : Type 0 where
   pub calls : List Call
-  pub given : AllGiven calls
-  pub is_server : (run calls).server ≡ server
-  pub is_newest : newest_bytes (run calls).files ≡ file
-  pub is_former : former_bytes (run calls).files ≡ former
+  pub given : AllLawfullyGiven calls
+  pub is_server : (site_of calls).server ≡ server
+  pub is_newest : newest_bytes (site_of calls).files ≡ file
+  pub is_former : former_bytes (site_of calls).files ≡ former
 
 -- whatever files were kept beside the first server may be kept beside the second
 abbrev pub KeepsFiles : State → State → Type 0
 KeepsFiles old new =
-    (file former : List ℕ) → ∥ AtWork old file former ∥₁ → ∥ AtWork new file former ∥₁
+    (file former : List ℕ) → ∥ IsAtWork old file former ∥₁ → ∥ IsAtWork new file former ∥₁
 
 -- these bytes are the newest file beside the second server, and what was the newest is the former
 abbrev pub AddsFile : State → State → List ℕ → Type 0
 AddsFile old new bytes =
-    (file former : List ℕ) → ∥ AtWork old file former ∥₁ → ∥ AtWork new bytes file ∥₁
+    (file former : List ℕ) → ∥ IsAtWork old file former ∥₁ → ∥ IsAtWork new bytes file ∥₁

@@ -1,22 +1,21 @@
-//! The board of a scanner: its card, its player and its ring.
+//! The board in a scanner: its card, its player and its ring.
 ghost use Rattle.std.specs.Prelude.{◌≡◌, IfOk};
-ghost use Rattle.group.specs.Calls.{key_wrap};
-ghost use Rattle.scanner.specs.Players.{read, wipe, after, leaves};
+ghost use Rattle.player_rules.specs.Players.{read, wipe, player_after, ring_after};
 ghost use Rattle.player.specs.Stored.{player_of};
-ghost use Rattle.site.specs.Boards.{IsOnCourse, IsPlayed, StaysOnCourse};
+ghost use Rattle.site.specs.Boards.{IsOnCourse, HasPlayerOnCourse, StaysOnCourse};
 
 use player::{AnyPlayer, CARD_BYTES, EnrolFault, RING_BYTES, ReadFault, Refused, enrol};
 use wrap::{WORKING_BYTES, Wrap};
 
-// The player that is enrolled with the card.
-fn enrolled_player(card: &[u8], ring: &mut [u8]) -> Result<AnyPlayer, EnrolFault>
+// Enrols a player with the card.
+fn enrol_any(card: &[u8], ring: &mut [u8]) -> Result<AnyPlayer, EnrolFault>
     ensures { IfOk result (λ p. ∥ IsOnCourse card.now (player_of p) ring.new ∥₁) }
 {
     let player = enrol(card, ring)?;
     Ok(AnyPlayer::from(player))
 }
 
-// A wiped player reads no file, and so meets no fault.
+// Reads a file by a player in any state. A wiped one reads none, and meets no fault.
 fn read<W: Wrap>(
     player: AnyPlayer,
     wrap: &W,
@@ -25,10 +24,10 @@ fn read<W: Wrap>(
     work: &mut [u8],
 ) -> (AnyPlayer, Option<ReadFault>)
     ensures player { player_of result.0
-        ≡ after (read (key_wrap W.wrap_kind W.wrap_length W.sealed W.opened) file.now work.old)
+        ≡ player_after (read W.meaning file.now work.old)
         (player_of player) ring.old }
     ensures ring { ring.new
-        ≡ leaves (read (key_wrap W.wrap_kind W.wrap_length W.sealed W.opened) file.now work.old)
+        ≡ ring_after (read W.meaning file.now work.old)
         (player_of player) ring.old }
 {
     match player {
@@ -57,10 +56,10 @@ fn read_once<W: Wrap>(
     read(player, wrap, file, ring, &mut work)
 }
 
-// A ring of a board has 288 bytes, so no wiping is refused.
+// Wipes by a player in any state. The ring of a board has 288 bytes, so no wiping is refused.
 fn wipe(player: AnyPlayer, ring: &mut [u8]) -> AnyPlayer
-    ensures player { player_of result ≡ after wipe (player_of player) ring.old }
-    ensures ring { ring.new ≡ leaves wipe (player_of player) ring.old }
+    ensures player { player_of result ≡ player_after wipe (player_of player) ring.old }
+    ensures ring { ring.new ≡ ring_after wipe (player_of player) ring.old }
 {
     match player {
         AnyPlayer::Waiting(player) => match player.wipe(ring) {
@@ -75,23 +74,23 @@ fn wipe(player: AnyPlayer, ring: &mut [u8]) -> AnyPlayer
     }
 }
 
-/// A scanner's board, enrolled with one card.
+/// The board in a scanner, enrolled with one card.
 #[derive(Drop)]
-pub(crate) struct Board {
+pub(crate) struct ScannerBoard {
     pub(crate) card: [u8; CARD_BYTES],
     ring: [u8; RING_BYTES],
-    // It is out only while a call moves it.
+    // `None` only while a call moves it.
     player: Option<AnyPlayer>,
     // It was enrolled with the card, and its own calls alone wrote the ring.
-    ghost played: { ∥ IsPlayed card player ring ∥₁ },
+    ghost on_course: { ∥ HasPlayerOnCourse card player ring ∥₁ },
 }
 
-impl Board {
-    /// A board that is enrolled with the card.
-    pub(crate) fn enrolled(card: [u8; CARD_BYTES]) -> Result<Board, EnrolFault> {
+impl ScannerBoard {
+    /// A board whose player is enrolled with the card.
+    pub(crate) fn enrol(card: [u8; CARD_BYTES]) -> Result<ScannerBoard, EnrolFault> {
         let mut ring = [0; RING_BYTES];
-        let player = enrolled_player(&card, &mut ring)?;
-        Ok(Board {
+        let player = enrol_any(&card, &mut ring)?;
+        Ok(ScannerBoard {
             card,
             ring,
             player: Some(player),
@@ -103,8 +102,8 @@ impl Board {
         u16::from_be_bytes([self.card[0], self.card[1]])
     }
 
-    /// The epoch on its card.
-    pub(crate) fn first(&self) -> u32 {
+    /// The epoch on its card, which is that of its first file.
+    pub(crate) fn first_epoch(&self) -> u32 {
         u32::from_be_bytes([self.card[3], self.card[4], self.card[5], self.card[6]])
     }
 
@@ -118,7 +117,7 @@ impl Board {
         fault
     }
 
-    /// The group key that it holds.
+    /// The group key in its ring; `None` where its player is not seated.
     pub(crate) fn group_key(&self) -> Option<[u8; 32]> {
         match &self.player {
             Some(AnyPlayer::Seated(player)) => player.show(&self.ring).ok(),
@@ -134,7 +133,7 @@ impl Board {
         self.player = Some(wipe(player, &mut self.ring));
     }
 
-    /// Whether its ring holds nothing any more.
+    /// Whether its ring is zeros.
     pub(crate) fn is_wiped(&self) -> bool {
         self.ring.iter().all(|b| *b == 0)
     }

@@ -1,14 +1,13 @@
-//! Runs sites from the making of their servers to the last file, one under each strategy and wrap, and prints what came of each
-//! call. The key material is read from standard input.
+//! Runs sites from the making of their servers to the last file, one under each strategy and wrap, and
+//! prints what came of each call. The key material is read from standard input.
 #![tactic(auto)]
 
 mod board;
+mod reports;
 mod site;
-mod told;
 
-use kw::KeyWrap;
+use kinds::{Kind, WrapJob};
 use site::Site;
-use siv::Siv;
 use std::io::{self, Read};
 use strategies::{KeyOriented, Star, UserOriented};
 use tree::Strategy;
@@ -55,40 +54,50 @@ fn story<S: Strategy, W: Wrap>(
     site.publish(rt, strategy, wrap, material)
 }
 
+// The story under one strategy, with the wrap of whichever kind is asked for.
+#[derive(Clone, Copy)]
+struct PlayStory<'a, 'm, S> {
+    rt: &'a HostRuntime,
+    name: &'a str,
+    strategy: &'a S,
+    // What is left of the key material.
+    material: &'m [u8],
+}
+
+impl<S: Strategy> WrapJob for PlayStory<'_, '_, S> {
+    type Output = io::Result<()>;
+
+    fn run<W: Wrap>(&mut self, wrap: &W) -> io::Result<()> {
+        story(self.rt, self.name, self.strategy, wrap, &mut self.material)
+    }
+}
+
+// The story under one strategy, with each wrap.
+fn stories<S: Strategy>(
+    rt: &HostRuntime,
+    name: &str,
+    strategy: &S,
+    material: &mut &[u8],
+) -> io::Result<()> {
+    let mut job = PlayStory {
+        rt,
+        name,
+        strategy,
+        material: *material,
+    };
+    Kind::Rfc3394.run(&mut job)?;
+    Kind::Rfc5297.run(&mut job)?;
+    *material = job.material;
+    Ok(())
+}
+
 fn run(rt: &HostRuntime) -> anyhow::Result<()> {
     let mut input = Vec::new(rt.alloc());
     rt.stdin().read_to_end(&mut input)?;
     let mut material = input.as_slice();
-    story(rt, "star", &Star::default(), &KeyWrap, &mut material)?;
-    story(rt, "star", &Star::default(), &Siv, &mut material)?;
-    story(
-        rt,
-        "user-oriented",
-        &UserOriented::default(),
-        &KeyWrap,
-        &mut material,
-    )?;
-    story(
-        rt,
-        "user-oriented",
-        &UserOriented::default(),
-        &Siv,
-        &mut material,
-    )?;
-    story(
-        rt,
-        "key-oriented",
-        &KeyOriented::default(),
-        &KeyWrap,
-        &mut material,
-    )?;
-    story(
-        rt,
-        "key-oriented",
-        &KeyOriented::default(),
-        &Siv,
-        &mut material,
-    )?;
+    stories(rt, "star", &Star::default(), &mut material)?;
+    stories(rt, "user-oriented", &UserOriented::default(), &mut material)?;
+    stories(rt, "key-oriented", &KeyOriented::default(), &mut material)?;
     Ok(())
 }
 

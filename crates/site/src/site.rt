@@ -1,19 +1,16 @@
 //! A site: its server, the boards that ever were enrolled there, and its files.
 ghost use Rattle.std.specs.Prelude.{◌≡◌, ◌≤◌, length, take, IfOk, MatchResult};
-ghost use Rattle.site.specs.Sites.{AtWork, KeepsFiles, AddsFile};
+ghost use Rattle.site.specs.Sites.{IsAtWork, KeepsFiles, AddsFile};
 
-use crate::board::Board;
-use crate::told;
-use group::Published;
+use crate::board::ScannerBoard;
+use crate::reports;
 use server::{CARD_BYTES, PublishFault, Server};
+use server_rules::PublishReport;
 use std::{io, mem};
-use tree::{Opener, Pair, Strategy};
+use tree::{MOST_PAIRS, Opener, Pair, Strategy};
 use wrap::{WORKING_BYTES, Wrap};
 
-// The most pairs that a plan has.
-const PAIRS: usize = 896;
-
-// The most bytes that a file has with the wraps of this program.
+// The most bytes of a file here: 137 of head, nodes and count, and 896 wraps of 54.
 const FILE_BYTES: usize = 48_521;
 
 // The scanners of this program.
@@ -26,7 +23,7 @@ fn publish_into<S: Strategy, W: Wrap>(
     wrap: &W,
     material: &[u8],
     file: &mut Vec<u8>,
-) -> Result<Published, PublishFault>
+) -> Result<PublishReport, PublishFault>
     ensures drawn { IfOk result (λ published. published.drawn ≤ length material.now) }
     ensures files { MatchResult result
         (λ published. AddsFile server.old server.new (take published.bytes file.new.items))
@@ -36,7 +33,7 @@ fn publish_into<S: Strategy, W: Wrap>(
         opener: Opener::Present(1),
         content: 1,
     };
-    let mut pairs = [unused; PAIRS];
+    let mut pairs = [unused; MOST_PAIRS];
     let mut work = [0; WORKING_BYTES];
     server.publish(strategy, wrap, material, &mut pairs, file, &mut work)
 }
@@ -54,12 +51,12 @@ fn keep(file: &mut Vec<u8>, former: &mut Vec<u8>, mut newest: Vec<u8>, bytes: us
 #[derive(Drop)]
 pub(crate) struct Site {
     server: Server,
-    boards: Vec<Board>,
+    boards: Vec<ScannerBoard>,
     // The newest file, and the one before it.
     file: Vec<u8>,
     former: Vec<u8>,
     // The server comes from calls, and these are the newest files of those calls.
-    ghost at_work: { ∥ AtWork server file.items former.items ∥₁ },
+    ghost at_work: { ∥ IsAtWork server file.items former.items ∥₁ },
 }
 
 impl Site {
@@ -76,7 +73,7 @@ impl Site {
         print!(rt; "admit {serial} at {cradle}: ")?;
         match self.server.admit(serial, cradle) {
             Ok(()) => println!(rt; "noted"),
-            Err(fault) => told::admit_fault(rt, fault),
+            Err(fault) => reports::admit_fault(rt, fault),
         }
     }
 
@@ -129,28 +126,33 @@ impl Site {
         };
         let mut card = newest.card;
         card[2] = 0;
-        if let Err(fault) = Board::enrolled(card) {
+        if let Err(fault) = ScannerBoard::enrol(card) {
             print!(rt; "a card with leaf 0: ")?;
-            told::enrol_fault(rt, fault)?;
+            reports::enrol_fault(rt, fault)?;
         }
         let mut card = newest.card;
         card[CARD_BYTES - 1] ^= 1;
-        match Board::enrolled(card) {
+        match ScannerBoard::enrol(card) {
             Ok(board) => self.try_board(rt, wrap, board),
-            Err(fault) => told::enrol_fault(rt, fault),
+            Err(fault) => reports::enrol_fault(rt, fault),
         }
     }
 
-    fn try_board<W: Wrap>(&self, rt: &HostRuntime, wrap: &W, mut board: Board) -> io::Result<()> {
+    fn try_board<W: Wrap>(
+        &self,
+        rt: &HostRuntime,
+        wrap: &W,
+        mut board: ScannerBoard,
+    ) -> io::Result<()> {
         if let Some((_, cut)) = self.file.as_slice().split_last() {
             if let Some(fault) = board.read(wrap, cut) {
                 print!(rt; "a file without its last byte: ")?;
-                told::read_fault(rt, fault)?;
+                reports::read_fault(rt, fault)?;
             }
         }
         if let Some(fault) = board.read(wrap, self.file.as_slice()) {
             print!(rt; "a card with a wrong key: ")?;
-            told::read_fault(rt, fault)?;
+            reports::read_fault(rt, fault)?;
         }
         Ok(())
     }
@@ -170,11 +172,11 @@ impl Site {
             Ok(published) => {
                 *material = &material[published.drawn..];
                 keep(&mut self.file, &mut self.former, newest, published.bytes);
-                told::published(rt, published)?;
+                reports::published(rt, published)?;
                 Ok(true)
             }
             Err(fault) => {
-                told::publish_fault(rt, fault)?;
+                reports::publish_fault(rt, fault)?;
                 Ok(false)
             }
         }
@@ -187,27 +189,32 @@ impl Site {
             if self.server.card(u32::from(serial), &mut card).is_ok()
                 && !self.boards.iter().any(|b| b.card == card)
             {
-                match Board::enrolled(card) {
+                match ScannerBoard::enrol(card) {
                     Ok(mut board) => {
-                        told::card(rt, &card)?;
+                        reports::card(rt, &card)?;
                         self.try_former(rt, wrap, &mut board)?;
                         self.boards.push(board)?;
                     }
-                    Err(fault) => told::enrol_fault(rt, fault)?,
+                    Err(fault) => reports::enrol_fault(rt, fault)?,
                 }
             }
         }
         Ok(())
     }
 
-    fn try_former<W: Wrap>(&self, rt: &HostRuntime, wrap: &W, board: &mut Board) -> io::Result<()> {
+    fn try_former<W: Wrap>(
+        &self,
+        rt: &HostRuntime,
+        wrap: &W,
+        board: &mut ScannerBoard,
+    ) -> io::Result<()> {
         if self.former.is_empty() {
             return Ok(());
         }
         match board.read(wrap, self.former.as_slice()) {
             Some(fault) => {
                 print!(rt; "{} reads the file before: ", board.serial())?;
-                told::read_fault(rt, fault)
+                reports::read_fault(rt, fault)
             }
             None => Ok(()),
         }
@@ -221,9 +228,9 @@ impl Site {
                 print!(rt;
                     "{} of epoch {} reads the file of epoch {epoch}: ",
                     board.serial(),
-                    board.first()
+                    board.first_epoch()
                 )?;
-                told::read_fault(rt, fault)?;
+                reports::read_fault(rt, fault)?;
             }
         }
         let (holders, members) = count(&self.server, self.boards.as_slice());
@@ -232,13 +239,13 @@ impl Site {
 }
 
 // Whether the board's card is that of a scanner that is in a cradle now.
-fn is_member(server: &Server, board: &Board) -> bool {
+fn is_member(server: &Server, board: &ScannerBoard) -> bool {
     let mut card = [0; CARD_BYTES];
     server.card(u32::from(board.serial()), &mut card).is_ok() && card == board.card
 }
 
 // How many members hold the server's group key, and how many members there are.
-fn count(server: &Server, boards: &[Board]) -> (usize, usize) {
+fn count(server: &Server, boards: &[ScannerBoard]) -> (usize, usize) {
     let key = server.group_key();
     let members = boards.iter().filter(|board| is_member(server, board));
     let holders = boards.iter().filter(|board| is_member(server, board)

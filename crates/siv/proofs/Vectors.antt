@@ -8,9 +8,10 @@ use Rattle.byte_strings.proofs.Xors.{xors_xors, xors_length}
 use Rattle.cmac.specs.Blocks.{dbl}
 use Rattle.cmac.specs.Cmac.{zeros, padding, cmac}
 use Rattle.byte_strings.proofs.Tails.{tail_added}
-use Rattle.siv.specs.S2v.{xorend, gathered, last_string, s2v}
+use Rattle.wrap_rules.specs.S2v.{xorend, gathered_block, last_string, s2v}
 
-module _ (e : List ℕ → List ℕ) (strings : List (List ℕ)) (text d : List ℕ) (is : d ≡ gathered e (cmac e zeros) strings) where
+-- S2V where the block D is d: of a text shorter than a block, and of a longer one
+module _ (e : List ℕ → List ℕ) (strings : List (List ℕ)) (text d : List ℕ) (is : d ≡ gathered_block e (cmac e zeros) strings) where
   pub s2v_short : length text < 16 → cmac e (xors (dbl d) (padding text)) ≡ s2v e strings text
   unfolding s2v last_string
   s2v_short h = ap (λ (u : List ℕ). cmac e (xors (dbl u) (padding text))) is ∙ rw (lt-leb 16 (length text) h)
@@ -20,7 +21,8 @@ module _ (e : List ℕ → List ℕ) (strings : List (List ℕ)) (text d : List 
   s2v_long h = ap (λ (u : List ℕ). cmac e (xorend text u)) is ∙ rw (le-leb 16 (length text) h)
 
 -- after a block was added to the last 16 bytes
-pub end_added : (s d ys : List ℕ) → ys ≡ xors (take (length s - (length s - 16)) (drop (length s - 16) s)) d → put_mid (length s - 16) (length s - (length s - 16)) s ys ≡ xorend s d
+pub end_added : (s d ys : List ℕ) → ys ≡ xors (take (length s - (length s - 16)) (drop (length s - 16) s)) d →
+    put_mid (length s - 16) (length s - (length s - 16)) s ys ≡ xorend s d
 unfolding xorend
 end_added s d ys e = tail_added (length s - 16) s d ys e
 

@@ -1,8 +1,6 @@
-pub mod S2v
-pub mod Counter
-pub mod Siv
-pub mod Laws
-pub mod Lawful
-pub mod Opened
-pub mod Streams
-pub mod Sizes
+pub use Rattle.aes.specs.Cipher
+pub use Rattle.aes.specs.Keyed
+pub use Rattle.wrap_rules.specs.Counter
+pub use Rattle.wrap_rules.specs.Meanings
+pub use Rattle.wrap_rules.specs.S2v
+pub use Rattle.wrap_rules.specs.Siv

@@ -1,16 +1,16 @@
-//! The counter mode.
+//! The counter mode of RFC 5297, 2.5.
 ghost use Rattle.std.specs.Prelude.{◌≡◌, ◌+◌, ◌%◌, ◌^◌};
-ghost use Rattle.aes.specs.Keyed.{enciphered};
-ghost use Rattle.siv.specs.Counter.{cleared, inc};
-ghost use Rattle.siv.specs.Counter.{ctr as counted};
+ghost use Rattle.aes.specs.Keyed.{cipher_of};
+ghost use Rattle.wrap_rules.specs.Counter.{counter_start, increment};
+ghost use Rattle.wrap_rules.specs.Counter.{ctr as ctr_of};
 
 use aes::Schedule;
 use byte_strings::xor_into;
 use cmac::{block_of, number_of};
 
-/// Q, the first counter: the IV without bits 31 and 63, as the RFC has it for the sake of 32-bit adders.
+/// Q, the first counter: the IV without bits 31 and 63, which saves 32-bit adders a carry.
 fn counter_start(v: [u8; 16]) -> [u8; 16]
-    ensures { result ≡ cleared v }
+    ensures { result ≡ counter_start v }
 {
     let mut q = v;
     q[8] &= 0x7f;
@@ -18,23 +18,25 @@ fn counter_start(v: [u8; 16]) -> [u8; 16]
     q
 }
 
+// The counter plus one, without what overflows its 128 bits.
 fn plus_one(n: u128) -> u128
     ensures { result ≡ (n + 1) % 2 ^ 128 }
 {
     n.wrapping_add(1)
 }
 
-#[tactic(auto, unfolding(crate::specs::Counter::inc))]
+/// The counter block after `q`.
+#[tactic(auto, unfolding(wrap_rules::specs::Counter::increment))]
 fn increment(q: [u8; 16]) -> [u8; 16]
-    ensures { result ≡ inc q }
+    ensures { result ≡ increment q }
 {
     block_of(plus_one(number_of(q)))
 }
 
-/// Adds the keystream that starts at the IV `v` to the text, in place; a second time takes it back.
+/// Adds the key stream that starts at the IV `v` to the text, in place; a second time takes it back.
 pub fn ctr(w: Schedule<'_>, v: [u8; 16], text: &mut [u8])
-    ensures added { text.new ≡ counted (enciphered w.entry) v text.old }
-    ensures back { counted (enciphered w.entry) v text.new ≡ text.old }
+    ensures added { text.new ≡ ctr_of (cipher_of w.entry) v text.old }
+    ensures back { ctr_of (cipher_of w.entry) v text.new ≡ text.old }
 {
     let mut q = counter_start(v);
     // By index: what a slice holds after a loop over its `chunks_mut` is not known to the prover.

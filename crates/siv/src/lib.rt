@@ -1,17 +1,16 @@
 //! AES-SIV, RFC 5297: sealing and opening in place, for strings and texts of any length.
 #![tactic(auto)]
 
-ghost use Rattle.std.specs.Prelude.{◌≡◌, [], ◌∷◌, ◌++◌, length, take, drop, is_some};
+ghost use Rattle.std.specs.Prelude.{◌≡◌, [], ◌∷◌, ◌++◌, length, take, drop, is_some, unwrap_or};
 ghost use Rattle.aes.specs.Cipher.{encrypt};
-ghost use Rattle.aes.specs.Keyed.{enciphered};
-ghost use Rattle.siv.specs.Siv.{siv_encrypt, accepted, decrypt_parts, text_or, siv, open_siv};
-ghost use Rattle.siv.specs.Laws.{SivExact};
-ghost use Rattle.siv.specs.Lawful.{siv_sized, open_siv_lem, open_only};
-ghost use Rattle.std.proofs.Common.{lit≤};
+ghost use Rattle.aes.specs.Keyed.{cipher_of};
+ghost use Rattle.wrap_rules.specs.Siv.{siv_encrypt, is_synthetic_iv, decrypted_text, siv};
+ghost use Rattle.wrap_rules.specs.Meanings.{rfc_5297};
+ghost use Rattle.wrap_rules.proofs.Lawful.{rfc_5297_lawful};
 
 use aes::Schedule;
 use byte_strings::{equal, part_of, put};
-use wrap::{Kind, Working, Wrap};
+use wrap::{Working, Wrap};
 
 mod counter;
 mod s2v;
@@ -19,11 +18,14 @@ mod s2v;
 pub use counter::ctr;
 pub use s2v::synthetic_iv;
 
-/// The bytes of the schedule of a 16-byte key.
+/// The size of the schedule of a 16-byte key, in bytes.
 const SCHEDULE: usize = 176;
 
-/// The bytes of 32 sealed bytes with their IV.
+/// The size of a sealing: 32 bytes with their IV.
 const SEALED: usize = 48;
+
+/// The number that stands for this wrap in a file.
+const KIND: u8 = 2;
 
 /// The schedules of the key's halves: of K1, for S2V, and of K2, for the counter mode.
 #[derive(Clone, Copy)]
@@ -37,8 +39,8 @@ impl<'a> Halves<'a> {
     pub fn expand(key: [u8; 32], w1: &'a mut [u8], w2: &'a mut [u8]) -> Halves<'a>
         requires room1 { length w1.old ≡ 176 }
         requires room2 { length w2.old ≡ 176 }
-        ensures first { enciphered result.k1 ≡ encrypt (take 16 key) }
-        ensures second { enciphered result.k2 ≡ encrypt (drop 16 key) }
+        ensures first { cipher_of result.k1 ≡ encrypt (take 16 key) }
+        ensures second { cipher_of result.k2 ≡ encrypt (drop 16 key) }
     {
         Halves {
             k1: Schedule::expand(part_of::<16>(&key, 0), w1),
@@ -48,17 +50,24 @@ impl<'a> Halves<'a> {
 
     /// Seals the text in place: returns V, and the text becomes C.
     pub fn seal_in_place(self, string: &[u8], text: &mut [u8]) -> [u8; 16]
-        ensures { result ++ text.new ≡ siv_encrypt (enciphered self.entry.k1) (enciphered self.entry.k2) (string.now ∷ []) text.old }
+        ensures { result ++ text.new
+            ≡ siv_encrypt (cipher_of self.entry.k1) (cipher_of self.entry.k2)
+            (string.now ∷ []) text.old }
     {
         let v = synthetic_iv(self.k1, string, text);
         ctr(self.k2, v, text);
         v
     }
 
-    /// Opens the text in place: C becomes P where V is that of P, and else is the C that it was. A flag is all that is new then.
+    /// Opens the text in place: C becomes P where V is that of P, and else is the C that it was.
+    /// Returns whether it opened.
     pub fn open_in_place(self, string: &[u8], v: [u8; 16], text: &mut [u8]) -> bool
-        ensures answer { result ≡ is_some (decrypt_parts (enciphered self.entry.k1) (enciphered self.entry.k2) (string.now ∷ []) v text.old) }
-        ensures left { text.new ≡ text_or text.old (decrypt_parts (enciphered self.entry.k1) (enciphered self.entry.k2) (string.now ∷ []) v text.old) }
+        ensures answer { result
+            ≡ is_some (decrypted_text (cipher_of self.entry.k1) (cipher_of self.entry.k2)
+            (string.now ∷ []) v text.old) }
+        ensures left { text.new
+            ≡ unwrap_or (decrypted_text (cipher_of self.entry.k1) (cipher_of self.entry.k2)
+            (string.now ∷ []) v text.old) text.old }
     {
         ctr(self.k2, v, text);
         if accepts(self.k1, string, v, text) {
@@ -68,9 +77,11 @@ impl<'a> Halves<'a> {
         false
     }
 
-    // Opens 32 bytes by value.
+    // Opens a ciphertext of 32 bytes, by value.
     fn open(self, string: &[u8], v: [u8; 16], ciphertext: [u8; 32]) -> Option<[u8; 32]>
-        ensures { result ≡ decrypt_parts (enciphered self.entry.k1) (enciphered self.entry.k2) (string.now ∷ []) v ciphertext }
+        ensures { result
+            ≡ decrypted_text (cipher_of self.entry.k1) (cipher_of self.entry.k2)
+            (string.now ∷ []) v ciphertext }
     {
         let mut text = ciphertext;
         self.open_in_place(string, v, &mut text).then_some(text)
@@ -79,7 +90,7 @@ impl<'a> Halves<'a> {
 
 /// Is `v` the synthetic IV of the string and the text?
 fn accepts(w: Schedule<'_>, string: &[u8], v: [u8; 16], text: &mut [u8]) -> bool
-    ensures answer { result ≡ accepted (enciphered w.entry) (string.now ∷ []) v text.old }
+    ensures answer { result ≡ is_synthetic_iv (cipher_of w.entry) (string.now ∷ []) v text.old }
     ensures kept { text.new ≡ text.old }
 {
     let t = synthetic_iv(w, string, text);
@@ -107,26 +118,12 @@ fn seal_under(
 pub struct Siv;
 
 impl Wrap for Siv {
-    ghost wrap_kind = { 2 };
+    ghost meaning = { rfc_5297 };
 
-    ghost wrap_length = { 48 };
-
-    ghost sealed = { λ key name content. siv key (name ∷ []) content };
-
-    ghost opened = { λ key name bytes. open_siv key (name ∷ []) bytes };
-
-    ghost kind_range = { (lit≤ tt, lit≤ tt) };
-
-    ghost length_range = { (lit≤ tt, lit≤ tt) };
-
-    ghost sealed_sized = { λ k n c hk hn hc. siv_sized k n c hk hn.1 hc };
-
-    ghost opens_sealed = { λ k n c hk hn hc. open_siv_lem k n c };
-
-    ghost opened_was_sealed = { λ k n z c hk hn hz o. open_only k n z c hk hz o };
+    ghost lawful = { rfc_5297_lawful };
 
     fn kind(&self) -> u8 {
-        u8::from(Kind::Rfc5297)
+        KIND
     }
 
     fn sealed_len(&self) -> usize {
@@ -165,8 +162,3 @@ impl Wrap for Siv {
         Halves::expand(key, w1, w2).open(&name, v, ciphertext)
     }
 }
-
-/// Opening accepts exactly what sealing gives.
-pub fn siv_is_exact()
-    ensures { SivExact }
-{}

@@ -1,13 +1,12 @@
-//! Publishes 128 arrivals at once, and reads the file as the player of one of them, with each kind of wrap. With a number of rounds as
-//! its argument it also tells the best time of each.
+//! Publishes 128 arrivals at once, and reads the file as the player of one of them, with each kind of
+//! wrap. With a number of rounds as its argument it also reports the best time of each.
 #![tactic(auto)]
 
 mod rounds;
 
 use anyhow::bail;
-use kw::KeyWrap;
+use kinds::{Kind, WrapJob};
 use rounds::{Buffers, Round, play_round};
-use siv::Siv;
 use std::env;
 use std::time::Duration;
 use wrap::Wrap;
@@ -63,6 +62,22 @@ fn show_kind<W: Wrap>(
     Ok(())
 }
 
+// The rounds with the wrap of whichever kind is asked for.
+#[derive(Drop)]
+struct ShowKind<'a> {
+    rt: &'a HostRuntime,
+    rounds: Option<u32>,
+    buffers: &'a mut Buffers,
+}
+
+impl WrapJob for ShowKind<'_> {
+    type Output = anyhow::Result<()>;
+
+    fn run<W: Wrap>(&mut self, wrap: &W) -> anyhow::Result<()> {
+        show_kind(self.rt, wrap, self.rounds, self.buffers)
+    }
+}
+
 // The number of rounds, if there is an argument.
 fn rounds_of(arguments: &[String]) -> anyhow::Result<Option<u32>> {
     match arguments {
@@ -80,8 +95,13 @@ fn run(rt: &HostRuntime) -> anyhow::Result<()> {
     let arguments: Vec<String> = env::args(rt)?.skip(1).collect(heap)?;
     let rounds = rounds_of(arguments.as_slice())?;
     let mut buffers = Buffers::new(heap)?;
-    show_kind(rt, &KeyWrap, rounds, &mut buffers)?;
-    show_kind(rt, &Siv, rounds, &mut buffers)
+    let mut job = ShowKind {
+        rt,
+        rounds,
+        buffers: &mut buffers,
+    };
+    Kind::Rfc3394.run(&mut job)?;
+    Kind::Rfc5297.run(&mut job)
 }
 
 fn main(rt: HostRuntime) -> anyhow::Result<()> {

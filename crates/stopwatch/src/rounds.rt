@@ -6,14 +6,11 @@ use server::{CARD_BYTES, Server};
 use std::alloc::{AllocError, Global};
 use std::time::{Duration, Instant};
 use strategies::Star;
-use tree::{Opener, Pair};
+use tree::{CRADLES, MOST_PAIRS, Opener, Pair};
 use wrap::{WORKING_BYTES, Wrap};
 
-// A key for each of the 128 leaves, and for each of the 127 nodes above them.
-const MATERIAL_BYTES: usize = 32 * (128 + 127);
-
-// As many pairs as a plan has at most.
-const PAIRS: usize = 896;
+// A key of 32 bytes for each leaf, and for each node above the leaves.
+const MATERIAL_BYTES: usize = 32 * (2 * CRADLES - 1);
 
 // As many bytes as a file of these wraps has at most.
 const FILE_BYTES: usize = 48_521;
@@ -44,7 +41,7 @@ impl Buffers {
         };
         Ok(Buffers {
             material,
-            pairs: vec![in heap; unused; PAIRS]?,
+            pairs: vec![in heap; unused; MOST_PAIRS]?,
             file: vec![in heap; 0; FILE_BYTES]?,
         })
     }
@@ -62,7 +59,7 @@ pub(crate) struct Round {
 // A scanner for each cradle, and of the same number.
 fn full_server() -> anyhow::Result<Server> {
     let mut server = Server::new();
-    for cradle in 1..=128 {
+    for cradle in 1..=CRADLES as u32 {
         if let Err(fault) = server.admit(cradle, cradle) {
             return Err(anyhow!("admit {cradle}: no {}", fault.number()));
         }
@@ -88,9 +85,9 @@ fn read_file<W: Wrap>(
         Err(fault) => return Err(anyhow!("enrol: no {}", fault.number())),
     };
     let start = Instant::now(rt)?;
-    let told = player.read(wrap, file, &mut ring, &mut work);
+    let answer = player.read(wrap, file, &mut ring, &mut work);
     let reading = start.elapsed(rt)?;
-    match told {
+    match answer {
         Ok(seated) => match seated.show(&ring) {
             Ok(key) => Ok((reading, key)),
             Err(fault) => Err(anyhow!("show: no {}", fault.number())),
@@ -108,7 +105,7 @@ pub(crate) fn play_round<W: Wrap>(
     let mut server = full_server()?;
     let mut work = [0; WORKING_BYTES];
     let start = Instant::now(rt)?;
-    let told = server.publish(
+    let answer = server.publish(
         &Star::default(),
         wrap,
         buffers.material.as_slice(),
@@ -117,16 +114,16 @@ pub(crate) fn play_round<W: Wrap>(
         &mut work,
     );
     let publishing = start.elapsed(rt)?;
-    match told {
-        Ok(published) => {
-            let bytes = published.bytes;
+    match answer {
+        Ok(report) => {
+            let bytes = report.bytes;
             let file = &buffers.file.as_slice()[..bytes];
             let (reading, key) = read_file(rt, &server, wrap, file)?;
             if Some(key) != server.group_key() {
                 return Err(anyhow!("the player does not hold the server's group key"));
             }
             Ok(Round {
-                wraps: published.wraps,
+                wraps: report.wraps,
                 bytes,
                 publishing,
                 reading,

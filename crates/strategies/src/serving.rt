@@ -1,31 +1,34 @@
-//! Which opener serves which content, by each strategy.
+//! Which opener serves which content, by each rule.
 ghost use Rattle.std.specs.Prelude.{◌≡◌};
-ghost use Rattle.rules.specs.Rules.{Rule as Rules, star, top, user_oriented, child, key_oriented};
-ghost use Rattle.rules.specs.Lawfulness.{AlwaysLawful};
-ghost use Rattle.rules.proofs.StarLaw.{star_lawful};
-ghost use Rattle.rules.proofs.UserLaw.{user_oriented_lawful};
-ghost use Rattle.rules.proofs.KeyLaw.{key_oriented_lawful};
+ghost use Rattle.strategy_rules.specs.Rules.{Rule as Rules, star_rule, is_top, user_oriented_rule, is_child, key_oriented_rule};
+ghost use Rattle.strategy_rules.specs.Lawfulness.{IsLawfulRule};
+ghost use Rattle.strategy_rules.proofs.StarLaw.{star_lawful};
+ghost use Rattle.strategy_rules.proofs.UserLaw.{user_oriented_lawful};
+ghost use Rattle.strategy_rules.proofs.KeyLaw.{key_oriented_lawful};
 
 use tree::{Board, Opener, is_beneath, is_inner, is_leaf, parent};
 
 /// Which openers serve a changed node.
 pub trait Rule {
+    // The rule that `serves` follows.
     ghost rule: { Rules };
 
+    /// Whether the new key of the node `content` is to be wrapped under the opener.
     fn serves(board: &Board, content: u8, opener: Opener) -> bool
-        ensures { result ≡ rule board.now.row content opener };
-
-    ghost lawful: { AlwaysLawful rule };
+        ensures { result ≡ rule board.now content opener };
 }
 
-/// An opener serves where it is an occupied leaf beneath the content.
+/// A rule whose plan is lawful for every row. It may be laid alone: see `ByRule`.
+pub trait LawfulRule: Rule {
+    ghost lawful: { IsLawfulRule Self.rule };
+}
+
+/// An opener serves where it is the present key of an occupied leaf beneath the content.
 #[derive(Clone, Copy, Default)]
 pub struct StarRule;
 
 impl Rule for StarRule {
-    ghost rule = { star };
-
-    ghost lawful = { star_lawful };
+    ghost rule = { star_rule };
 
     fn serves(board: &Board, content: u8, opener: Opener) -> bool {
         match opener {
@@ -35,23 +38,25 @@ impl Rule for StarRule {
     }
 }
 
-/// Whether `o` has a changed parent and is an occupied leaf or an occupied unchanged inner node.
+impl LawfulRule for StarRule {
+    ghost lawful = { star_lawful };
+}
+
+// Whether `o` has a changed parent and is an occupied leaf or an occupied unchanged inner node.
 fn is_top(board: &Board, o: u8) -> bool
-    ensures { result ≡ top board.now.row o }
+    ensures { result ≡ is_top board.now o }
 {
     board.is_changed(parent(o))
         && board.is_occupied(o)
         && (is_leaf(o) || is_inner(o) && !board.is_changed(o))
 }
 
-/// An opener serves where it is a top beneath the content.
+/// An opener serves where it is the present key of a top beneath the content.
 #[derive(Clone, Copy, Default)]
-pub struct UserRule;
+pub struct UserOrientedRule;
 
-impl Rule for UserRule {
-    ghost rule = { user_oriented };
-
-    ghost lawful = { user_oriented_lawful };
+impl Rule for UserOrientedRule {
+    ghost rule = { user_oriented_rule };
 
     fn serves(board: &Board, content: u8, opener: Opener) -> bool {
         match opener {
@@ -61,27 +66,35 @@ impl Rule for UserRule {
     }
 }
 
-/// The content's former key serves, and each newcomer beneath it; or, if that key does not, each occupied child.
+impl LawfulRule for UserOrientedRule {
+    ghost lawful = { user_oriented_lawful };
+}
+
+/// If the content's former key serves: that key, and each leaf beneath that somebody arrives at. If
+/// it does not: each occupied child of the content.
 #[derive(Clone, Copy, Default)]
-pub struct KeyRule;
+pub struct KeyOrientedRule;
 
-impl Rule for KeyRule {
-    ghost rule = { key_oriented };
-
-    ghost lawful = { key_oriented_lawful };
+impl Rule for KeyOrientedRule {
+    ghost rule = { key_oriented_rule };
 
     fn serves(board: &Board, content: u8, opener: Opener) -> bool {
         let former = board.former_serves(content);
         match opener {
             Opener::Former(_) => former,
-            Opener::Present(o) if former => is_beneath(o, content) && board.is_newcomer(o),
+            Opener::Present(o) if former => is_beneath(o, content) && board.is_arrival_in_empty(o),
             Opener::Present(o) => is_child(o, content) && board.is_occupied(o),
         }
     }
 }
 
+impl LawfulRule for KeyOrientedRule {
+    ghost lawful = { key_oriented_lawful };
+}
+
+// Whether `n` is the parent of `o`.
 fn is_child(o: u8, n: u8) -> bool
-    ensures { result ≡ child o n }
+    ensures { result ≡ is_child o n }
 {
     parent(o) == n
 }

@@ -1,4 +1,5 @@
 pub mod Members
+pub mod LawfulPlans
 pub mod Halvings
 pub mod Standing
 pub mod Tables

@@ -1,11 +1,22 @@
--- Members of lists, and tests of some number.
-use Rattle.std.proofs.Common.{◌≡◌, ℕ, zero, suc, ◌+◌, ◌<◌, ◌≤◌, Bool, true, false, cond, ◌⊎◌, List, [], ◌∷◌, ◌++◌, map, filter, sym, refl, ap, ◌∙◌, subst, inl, inr, arith}
-use Rattle.std.specs.List.{range_with_len, flat_map}
+-- Members of lists, and tests of some number. Contracts say `Contains`, and proofs go over `In`.
+use Rattle.std.proofs.Common.{◌≡◌, ℕ, zero, suc, ◌+◌, ◌<◌, ◌≤◌, Bool, true, false, cond, ◌⊎◌, List, [], ◌∷◌, ◌++◌, map, filter, Contains, sym, refl, ap, ◌∙◌}
+use Rattle.std.proofs.Common.{subst, inl, inr, arith}
+use Rattle.std.specs.List.{range_with_len, flat_map, list_any}
 use Rattle.std.proofs.lemmas.Bool.{cases_eq, or_left, or_right, or_cases, false≢true}
-use Rattle.tree.specs.Tree.{some, falling}
+use Rattle.tree.specs.Tree.{countdown}
 use Rattle.tree.specs.Plans.{In}
 
 module _ {A : Type 0} where
+  pub in_contains : (xs : List A) (x : A) → In x xs → Contains xs x
+  in_contains [] x h = absurd h
+  in_contains (y ∷ ys) x (inl e) = (0, omega arith, sym e)
+  in_contains (y ∷ ys) x (inr h) = let c = in_contains ys x h in (suc c.0, omega (arith, c.1), c.2)
+
+  pub contains_in : (xs : List A) (x : A) → Contains xs x → In x xs
+  contains_in [] x c = absurd (omega (arith, c.1))
+  contains_in (y ∷ ys) x (zero, l, e) = inl (sym e)
+  contains_in (y ∷ ys) x (suc k, l, e) = inr (contains_in ys x (k, omega arith, e))
+
   pub in_append : (xs ys : List A) (x : A) → In x (xs ++ ys) → In x xs ⊎ In x ys
   in_append [] ys x h = inr h
   in_append (y ∷ xs) ys x (inl e) = inl (inl e)
@@ -70,18 +81,18 @@ pub counting_in : (a n i : ℕ) → a ≤ i → i < a + n → In i (range_with_l
 counting_in a zero i l h = absurd (omega arith)
 counting_in a (suc n) i l h = elim (cases_eq i a) [ inl e ↦ inl e | inr x ↦ inr (counting_in (a + 1) n i (omega arith) (omega arith)) ]
 
-pub falling_in : (k i : ℕ) → 0 < i → i ≤ k → In i (falling k)
+pub falling_in : (k i : ℕ) → 0 < i → i ≤ k → In i (countdown k)
 falling_in zero i l h = absurd (omega arith)
 falling_in (suc k) i l h = elim (cases_eq i (suc k)) [ inl e ↦ inl e | inr x ↦ inr (falling_in k i l (omega arith)) ]
 
-pub some_from : (test : ℕ → Bool) (xs : List ℕ) (x : ℕ) → In x xs → test x ≡ true → some test xs ≡ true
+pub some_from : (test : ℕ → Bool) (xs : List ℕ) (x : ℕ) → In x xs → test x ≡ true → list_any test xs ≡ true
 some_from test [] x h e = absurd h
-some_from test (y ∷ ys) x (inl q) e = or_left (test y) (some test ys) (sym (ap test q) ∙ e)
-some_from test (y ∷ ys) x (inr h) e = or_right (test y) (some test ys) (some_from test ys x h e)
+some_from test (y ∷ ys) x (inl q) e = or_left (test y) (list_any test ys) (sym (ap test q) ∙ e)
+some_from test (y ∷ ys) x (inr h) e = or_right (test y) (list_any test ys) (some_from test ys x h e)
 
-pub some_who : (test : ℕ → Bool) (xs : List ℕ) → some test xs ≡ true → (x : ℕ) × (In x xs × (test x ≡ true))
+pub some_who : (test : ℕ → Bool) (xs : List ℕ) → list_any test xs ≡ true → (x : ℕ) × (In x xs × (test x ≡ true))
 some_who test [] e = absurd (false≢true e)
-some_who test (y ∷ ys) e = elim (or_cases (test y) (some test ys) e) [
+some_who test (y ∷ ys) e = elim (or_cases (test y) (list_any test ys) e) [
   | inl q ↦ (y, (inl refl, q))
   | inr r ↦ let w = some_who test ys r in (w.0, (inr w.1.0, w.1.1))
 ]

@@ -3,3 +3,4 @@ pub mod Rows
 pub mod Laws
 pub mod Plans
 pub mod Calls
+pub use Rattle.refusal.specs.Refusals

@@ -1,13 +1,14 @@
 //! Codes by their numbers, and what is looked for among them.
 ghost use Rattle.std.specs.Prelude.{◌≡◌, ok_or};
-ghost use Rattle.tree.specs.Rows.{code_of, marks, standing_of, either, says};
+ghost use Rattle.tree.specs.Rows.{code_of_number, is_mark_of, standing_of, standing_or, has_mark};
 
 use crate::types::{Code, Mark, UnknownCode};
 
 impl TryFrom<u8> for Code {
     type Error = UnknownCode;
 
-    ghost try_from_gives = { λ number result. result ≡ ok_or (code_of number) (record { 0 = number }) };
+    ghost try_from_gives = { λ number result. result
+        ≡ ok_or (code_of_number number) (record { 0 = number }) };
 
     fn try_from(number: u8) -> Result<Code, UnknownCode> {
         match number {
@@ -22,9 +23,9 @@ impl TryFrom<u8> for Code {
 }
 
 impl Mark {
-    /// Whether the code is one that is looked for.
-    pub fn on(self, code: Code) -> bool
-        ensures { result ≡ marks self code }
+    /// Whether the code is one that this mark looks for.
+    pub fn is_mark_of(self, code: Code) -> bool
+        ensures { result ≡ is_mark_of self code }
     {
         match self {
             Mark::Change => matches!(code, Code::Arrives | Code::Departs | Code::Swaps),
@@ -50,18 +51,18 @@ impl From<Code> for Standing {
     /// The marks of one code.
     fn from(code: Code) -> Standing {
         Standing {
-            change: Mark::Change.on(code),
-            presence: Mark::Presence.on(code),
-            stay: Mark::Stay.on(code),
-            departure: Mark::Departure.on(code),
+            change: Mark::Change.is_mark_of(code),
+            presence: Mark::Presence.is_mark_of(code),
+            stay: Mark::Stay.is_mark_of(code),
+            departure: Mark::Departure.is_mark_of(code),
         }
     }
 }
 
 impl Standing {
-    /// The marks of either.
+    /// The marks that stand in either place.
     pub fn or(self, other: Standing) -> Standing
-        ensures { result ≡ either self other }
+        ensures { result ≡ standing_or self other }
     {
         Standing {
             change: self.change | other.change,
@@ -71,9 +72,9 @@ impl Standing {
         }
     }
 
-    /// Whether the mark is one of them.
-    pub fn has(self, mark: Mark) -> bool
-        ensures { result ≡ says self mark }
+    /// Whether the mark is one of those that stand there.
+    pub fn has_mark(self, mark: Mark) -> bool
+        ensures { result ≡ has_mark self mark }
     {
         match mark {
             Mark::Change => self.change,

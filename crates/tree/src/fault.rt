@@ -1,13 +1,13 @@
 //! The number of a refusal.
 ghost use Rattle.std.specs.Prelude.{◌≡◌};
-ghost use Rattle.tree.specs.Calls.{refusal_of};
+ghost use Rattle.tree.specs.Calls.{plan_refusal};
 
 use crate::types::PlanFault;
 
 impl PlanFault {
-    /// The number of this refusal.
+    /// The number of this refusal: 11.
     pub fn number(&self) -> u8
-        ensures { result ≡ (refusal_of self.now).number }
+        ensures { result ≡ (plan_refusal self.now).number }
     {
         match *self {
             PlanFault::ShortPairs { .. } => 11,

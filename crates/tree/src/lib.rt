@@ -1,34 +1,36 @@
 //! The key tree, rows of codes, and the interface of a rekey strategy.
 #![tactic(auto)]
 
-ghost use Rattle.std.specs.Prelude.{◌≡◌, List, length};
-ghost use Rattle.refusal.specs.Refusals.{told};
-ghost use Rattle.tree.specs.declared.types.Code.{Code as Codes};
-ghost use Rattle.tree.specs.declared.types.Pair.{Pair as Pairs};
+ghost use Rattle.std.specs.Prelude.{◌≡◌};
+ghost use Rattle.refusal.specs.Refusals.{verdict_of};
 ghost use Rattle.tree.specs.Laws.{TreeLaws};
-ghost use Rattle.tree.specs.Plans.{Lawful};
-ghost use Rattle.tree.specs.Calls.{refusal_of, plan_verdict, plan_leaves};
+ghost use Rattle.tree.specs.Plans.{StrategyMeaning, IsLawfulStrategy};
+ghost use Rattle.tree.specs.Calls.{plan_refusal, strategy_verdict, pairs_after_plan};
 
 mod board;
 mod codes;
 mod fault;
+mod limits;
 mod nodes;
 mod types;
 
 pub use board::Board;
+pub use limits::{CRADLES, MOST_PAIRS};
 pub use nodes::{is_beneath, is_inner, is_leaf, is_within, parent};
 pub use types::{Code, Mark, Opener, Pair, PlanFault, UnknownCode};
 
 /// One lawful plan for every row of codes.
 pub trait Strategy {
-    ghost planned: { List Codes → List Pairs };
+    // What the strategy means: its plan for each row.
+    ghost meaning: { StrategyMeaning };
 
     /// Writes the plan to the front of `pairs`, and answers how many pairs it has. The pairs are lent: no call allocates.
     fn plan(&self, row: &[Code; 128], pairs: &mut [Pair]) -> Result<usize, PlanFault>
-        ensures answer { told refusal_of result ≡ plan_verdict (planned row.now) pairs.old }
-        ensures written { pairs.new ≡ plan_leaves (planned row.now) pairs.old };
+        ensures answer { verdict_of plan_refusal result
+            ≡ strategy_verdict (meaning row.now) pairs.old }
+        ensures written { pairs.new ≡ pairs_after_plan (meaning row.now) pairs.old };
 
-    ghost lawful: { (row : List Codes) → length row ≡ 128 → Lawful row (planned row) };
+    ghost lawful: { IsLawfulStrategy meaning };
 }
 
 /// The tests on nodes say what the rules say.

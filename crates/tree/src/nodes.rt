@@ -1,6 +1,6 @@
 //! The tree's nodes by their numbers.
 ghost use Rattle.std.specs.Prelude.{◌≡◌, ◌/◌};
-ghost use Rattle.tree.specs.Tree.{within, beneath, is_leaf, is_inner};
+ghost use Rattle.tree.specs.Tree.{is_within, is_beneath, is_leaf, is_inner};
 
 /// The node above `n`; 0 above the root.
 pub fn parent(n: u8) -> u8
@@ -12,7 +12,7 @@ pub fn parent(n: u8) -> u8
 /// Whether `m` is the node `n` or beneath it.
 #[tactic(auto, using(crate::proofs::Halvings::walk))]
 pub fn is_within(m: u8, n: u8) -> bool
-    ensures { result ≡ within m n }
+    ensures { result ≡ is_within m n }
 {
     let mut at = m;
     while at > n {
@@ -21,19 +21,21 @@ pub fn is_within(m: u8, n: u8) -> bool
     n > 0 && at == n
 }
 
-/// Whether halving `m` one or more times gives `n`.
+/// Whether `m` is beneath the node `n`: halving it one or more times gives `n`.
 pub fn is_beneath(m: u8, n: u8) -> bool
-    ensures { result ≡ beneath m n }
+    ensures { result ≡ is_beneath m n }
 {
     is_within(parent(m), n)
 }
 
+/// Whether `n` is a leaf, 128 to 255.
 pub fn is_leaf(n: u8) -> bool
     ensures { result ≡ is_leaf n }
 {
     n >= 128
 }
 
+/// Whether `n` is an inner node, 1 to 127; 0 is no node.
 pub fn is_inner(n: u8) -> bool
     ensures { result ≡ is_inner n }
 {

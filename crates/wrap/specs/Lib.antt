@@ -1,3 +1,4 @@
 pub mod Refusals
 pub mod Calls
-pub mod Kinds
+pub mod Meaning
+pub use Rattle.refusal.specs.Refusals as Verdicts

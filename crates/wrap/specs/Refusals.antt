@@ -1,10 +1,11 @@
--- The refusals of a key wrap: the number of each, and the values that are told with it.
+-- The refusals of a key wrap.
 use Rattle.std.specs.Prelude.{[], ◌∷◌}
-use Rattle.refusal.specs.Refusals.{Refusal, no}
+use Rattle.refusal.specs.Refusals.{Refusal, refusal_with}
 use Rattle.wrap.specs.declared.fault.WrapFault.{WrapFault}
 use Rattle.wrap.specs.declared.fault.WrapFault.TheVariants.{ShortWorking, ShortBuffer, DoesNotOpen}
 
-abbrev pub refusal_of : WrapFault → Refusal
-refusal_of ShortWorking = no 9 []
-refusal_of (ShortBuffer needed) = no 12 (needed ∷ [])
-refusal_of DoesNotOpen = no 18 []
+-- the number of each fault, and the values that are reported with it
+abbrev pub wrap_refusal : WrapFault → Refusal
+wrap_refusal ShortWorking = refusal_with 9 []
+wrap_refusal (ShortBuffer needed) = refusal_with 12 (needed ∷ [])
+wrap_refusal DoesNotOpen = refusal_with 18 []

@@ -1,0 +1,2 @@
+pub mod Decoding
+pub mod Showing

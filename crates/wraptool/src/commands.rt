@@ -1,20 +1,20 @@
 //! The commands of a line.
 ghost use Rattle.std.specs.Prelude.{◌≡◌, [], ◌∷◌, ◌++◌, Some};
 ghost use Rattle.aes.specs.Cipher.{encrypt, decrypt};
-ghost use Rattle.aes.specs.Keyed.{enciphered, deciphered};
+ghost use Rattle.aes.specs.Keyed.{cipher_of, inv_cipher_of};
 ghost use Rattle.cmac.specs.Cmac.{cmac as cmac_of};
-ghost use Rattle.siv.specs.Siv.{siv as siv_of};
-ghost use Rattle.wraptool.specs.Answers.{key_bytes, Shows, sized};
+ghost use Rattle.wrap_rules.specs.Siv.{siv as siv_of};
+ghost use Rattle.wraptool.specs.Answers.{key_bytes, Shows, content_if_sized};
 
 use crate::fault::{Fault, Part};
+use crate::hex::decode;
 use aes::Schedule;
 use byte_strings::part_of;
 use cmac::mac;
-use hex_text::decode;
-use kw::KeyWrap;
-use siv::{Halves, Siv};
+use kinds::{Kind, WrapJob};
+use siv::Halves;
 use std::alloc::Global;
-use wrap::{Kind, Wrap};
+use wrap::{WORKING_BYTES, Wrap};
 
 // The bytes of a word: digits, or a dash for none.
 fn bytes_of(heap: Global, word: &str) -> Result<Vec<u8>, Fault> {
@@ -54,8 +54,8 @@ impl AesKey {
     }
 
     fn expand(self, w: &mut [u8; 240]) -> Schedule<'_>
-        ensures cipher { enciphered result ≡ encrypt (key_bytes self) }
-        ensures inverse { deciphered result ≡ decrypt (key_bytes self) }
+        ensures cipher { cipher_of result ≡ encrypt (key_bytes self) }
+        ensures inverse { inv_cipher_of result ≡ decrypt (key_bytes self) }
     {
         match self {
             AesKey::Short(key) => Schedule::expand(key, &mut w[..176]),
@@ -86,8 +86,8 @@ fn tag(key: [u8; 16], message: &[u8]) -> [u8; 16]
     mac(Schedule::expand(key, &mut w), message)
 }
 
-// The text becomes the encrypted text; the synthetic IV is answered.
-fn synthetic(key: [u8; 32], string: &[u8], text: &mut [u8]) -> [u8; 16]
+// Seals the text in place, and returns its synthetic IV.
+fn siv_of_text(key: [u8; 32], string: &[u8], text: &mut [u8]) -> [u8; 16]
     ensures { result ++ text.new ≡ siv_of key (string.now ∷ []) text.old }
 {
     let mut w1 = [0u8; 176];
@@ -95,38 +95,53 @@ fn synthetic(key: [u8; 32], string: &[u8], text: &mut [u8]) -> [u8; 16]
     Halves::expand(key, &mut w1, &mut w2).seal_in_place(string, text)
 }
 
-fn seal_with<W: Wrap>(
+// A sealing that is asked for, by whichever wrap.
+#[derive(Clone, Copy)]
+struct SealJob {
     heap: Global,
-    wrap: &W,
     key: [u8; 32],
     name: [u8; 10],
     content: [u8; 32],
-) -> Result<Vec<u8>, Fault>
-    ensures { Shows result (Some (W.Wrap.sealed key name content)) }
-{
-    let mut out = [0; 64];
-    let mut work = [0; 512];
-    // The faults are named: a derived conversion promises nothing of what it makes.
-    wrap.seal(key, name, content, &mut out, &mut work)
-        .map_err(Fault::Refused)?;
-    let n = wrap.sealed_len();
-    out[0..n].to_vec(heap).map_err(Fault::NoMemory)
 }
 
-fn open_with<W: Wrap>(
+impl WrapJob for SealJob {
+    type Output = Result<Vec<u8>, Fault>;
+
+    ghost gives = { λ w s result _. Shows result (Some (w.seals s.key s.name s.content)) };
+
+    fn run<W: Wrap>(&mut self, wrap: &W) -> Result<Vec<u8>, Fault> {
+        let mut out = [0; 64];
+        let mut work = [0; WORKING_BYTES];
+        // The faults are named: a derived conversion promises nothing of what it makes.
+        wrap.seal(self.key, self.name, self.content, &mut out, &mut work)
+            .map_err(Fault::Refused)?;
+        let n = wrap.sealed_len();
+        out[0..n].to_vec(self.heap).map_err(Fault::NoMemory)
+    }
+}
+
+// An opening that is asked for, by whichever wrap.
+#[derive(Clone, Copy)]
+struct OpenJob<'a> {
     heap: Global,
-    wrap: &W,
     key: [u8; 32],
     name: [u8; 10],
-    bytes: &[u8],
-) -> Result<Vec<u8>, Fault>
-    ensures { Shows result (sized W.Wrap.wrap_length bytes.now (W.Wrap.opened key name bytes.now)) }
-{
-    let mut place = [0; 32];
-    let mut work = [0; 512];
-    wrap.open(key, name, bytes, &mut place, &mut work)
-        .map_err(Fault::Refused)?;
-    place.to_vec(heap).map_err(Fault::NoMemory)
+    bytes: &'a [u8],
+}
+
+impl WrapJob for OpenJob<'_> {
+    type Output = Result<Vec<u8>, Fault>;
+
+    ghost gives = { λ w s result _. Shows result
+        (content_if_sized w.length s.bytes.now (w.opens s.key s.name s.bytes.now)) };
+
+    fn run<W: Wrap>(&mut self, wrap: &W) -> Result<Vec<u8>, Fault> {
+        let mut place = [0; 32];
+        let mut work = [0; WORKING_BYTES];
+        wrap.open(self.key, self.name, self.bytes, &mut place, &mut work)
+            .map_err(Fault::Refused)?;
+        place.to_vec(self.heap).map_err(Fault::NoMemory)
+    }
 }
 
 // A line of AES in either direction.
@@ -153,7 +168,7 @@ fn siv_line(heap: Global, key: &str, string: &str, text: &str) -> Result<Vec<u8>
     let key = array_of(heap, key, Part::Key)?;
     let string = bytes_of(heap, string)?;
     let mut text = bytes_of(heap, text)?;
-    let v = synthetic(key, string.as_slice(), text.as_mut_slice());
+    let v = siv_of_text(key, string.as_slice(), text.as_mut_slice());
     let mut out = v.to_vec(heap)?;
     out.extend_from_slice(text.as_slice())?;
     Ok(out)
@@ -170,11 +185,12 @@ fn seal_line(
     let key = array_of(heap, key, Part::Key)?;
     let name = array_of(heap, name, Part::Name)?;
     let content = array_of(heap, content, Part::Content)?;
-    // There are these two kinds and no others, so a match is plainest.
-    match kind {
-        Kind::Rfc3394 => seal_with(heap, &KeyWrap, key, name, content),
-        Kind::Rfc5297 => seal_with(heap, &Siv, key, name, content),
-    }
+    kind.run(&mut SealJob {
+        heap,
+        key,
+        name,
+        content,
+    })
 }
 
 fn open_line(
@@ -188,11 +204,12 @@ fn open_line(
     let key = array_of(heap, key, Part::Key)?;
     let name = array_of(heap, name, Part::Name)?;
     let bytes = bytes_of(heap, bytes)?;
-    // There are these two kinds and no others, so a match is plainest.
-    match kind {
-        Kind::Rfc3394 => open_with(heap, &KeyWrap, key, name, bytes.as_slice()),
-        Kind::Rfc5297 => open_with(heap, &Siv, key, name, bytes.as_slice()),
-    }
+    kind.run(&mut OpenJob {
+        heap,
+        key,
+        name,
+        bytes: bytes.as_slice(),
+    })
 }
 
 /// Carries out a command on the words that follow it.

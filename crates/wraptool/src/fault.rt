@@ -1,9 +1,10 @@
 //! Why a line has no bytes for an answer.
-use hex_text::HexFault;
+use crate::hex::HexFault;
+use kinds::UnknownKind;
 use std::alloc::AllocError;
 use std::fmt;
 use thiserror::Error;
-use wrap::{UnknownKind, WrapFault};
+use wrap::WrapFault;
 
 /// A part of a line that has to have a certain length.
 #[derive(Clone, Copy, Debug)]
@@ -37,7 +38,7 @@ pub enum Fault {
         wanted: usize,
     },
     #[error(transparent)]
-    Kind(#[from] UnknownKind),
+    UnknownKind(#[from] UnknownKind),
     #[error(transparent)]
     Hex(#[from] HexFault),
     #[error("{part} of {bytes} bytes, {wanted} wanted")]

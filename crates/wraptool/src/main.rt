@@ -3,10 +3,11 @@
 
 mod commands;
 mod fault;
+mod hex;
 
 use commands::carry_out;
 use fault::Fault;
-use hex_text::Hex;
+use hex::HexDigits;
 use std::alloc::Global;
 use std::io::{BufRead, BufReader};
 
@@ -29,7 +30,7 @@ fn run(rt: &HostRuntime) -> anyhow::Result<()> {
         match answer_line(heap, line?.as_slice()) {
             Ok(None) => {}
             Ok(Some(bytes)) => {
-                let digits = Hex(bytes.as_slice());
+                let digits = HexDigits(bytes.as_slice());
                 println!(rt; "{digits}")?;
             }
             Err(refused @ Fault::Refused(_)) => println!(rt; "{refused}")?,

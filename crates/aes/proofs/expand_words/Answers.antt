@@ -12,4 +12,5 @@ loop-i-preserved c =
     let past : c.args.nk ≤ c.loop-i.i = omega arith in
     let room : 4 * c.loop-i.i + 4 ≤ length c.loop-i.w = omega arith in
     ap (take (4 * (c.loop-i.i + 1))) c.put.ensures
-    ∙ word_more c.args.nk c.loop-i.i c.loop-i.w (take (4 * c.args.nk) c.args.w.now) c.next_word-next.result some past room long c.loop-i.invariant c.next_word-next.ensures
+    ∙ word_more c.args.nk c.loop-i.i c.loop-i.w (take (4 * c.args.nk) c.args.w.now) c.next_word-next.result
+    some past room long c.loop-i.invariant c.next_word-next.ensures

@@ -10,4 +10,5 @@ loop-k-preserved c =
     let entry : NodeKey = get_or c.args.entries.now c.loop-k.k none in
     c.put_entry.ensures.written
     ∙ ap (λ bytes. with_entry bytes c.loop-k.k entry) c.loop-k.invariant
-    ∙ front_more c.args.entries.now c.args.bytes.now c.loop-k.k none (sym (ap length c.loop-k.invariant) ∙ c.loop-k.auto.bytes) (omega arith) (omega arith) c.put_entry.ensures.whole_key
+    ∙ front_more c.args.entries.now c.args.bytes.now c.loop-k.k none
+    (sym (ap length c.loop-k.invariant) ∙ c.loop-k.auto.bytes) (omega arith) (omega arith) c.put_entry.ensures.whole_key

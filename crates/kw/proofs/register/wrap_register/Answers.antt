@@ -1,15 +1,15 @@
 use Rattle.std.proofs.Common.{◌≡◌, ℕ, ◌+◌, ◌-◌, sym, ap, ◌∙◌, ap₂, arith}
-use Rattle.aes.specs.Keyed.{enciphered}
-use Rattle.kw.specs.Wrapping.{wrap_step, wrap_steps}
-use Rattle.kw.specs.Steps.{steps_none, steps_more}
+use Rattle.aes.specs.Keyed.{cipher_of}
+use Rattle.wrap_rules.specs.KeyWrap.{wrap_step, wrap_steps}
+use Rattle.wrap_rules.proofs.KeyWrapSteps.{steps_none, steps_more}
 use Rattle.kw.proofs.register.wrap_register.Goals as goal
 
 pub loop-t-init : goal.loop-t-init
-loop-t-init c = steps_none (enciphered c.args.w) c.args.s.now
+loop-t-init c = steps_none (cipher_of c.args.w) c.args.s.now
 
 pub loop-t-preserved : goal.loop-t-preserved
 loop-t-preserved c =
-    let e = enciphered c.args.w in
+    let e = cipher_of c.args.w in
     let here : c.loop-t.t - 1 + 1 ≡ c.loop-t.t = omega arith in
     let next : c.loop-t.t - 1 + 1 ≡ c.loop-t.t + 1 - 1 = omega arith in
     c.wrap_step.ensures

@@ -1,5 +1,5 @@
-use Rattle.plan.proofs.Filling.{Filled}
+use Rattle.plan.proofs.Filling.{IsFilled}
 use Rattle.plan.proofs.lines.row_of.Given as goal
 
 abbrev pub invariant-loop-i : goal.invariant-loop-i
-invariant-loop-i l = Filled l.digits l.i l.row
+invariant-loop-i l = IsFilled l.digits l.i l.row

@@ -1,6 +1,6 @@
 use Rattle.std.proofs.Common.{rules}
 use Rattle.byte_strings.proofs.Arrays.{made_by}
-use Rattle.scanner.specs.Rings.{entry_at, entries}
+use Rattle.player_rules.specs.Rings.{entry_at, entries}
 use Rattle.ring.proofs.Ring.of.Goals as goal
 
 pub returns : goal.returns

@@ -1,5 +1,5 @@
 use Rattle.std.proofs.Common.{ℕ, List, ap, ◌∙◌}
-use Rattle.siv.specs.S2v.{xorend}
+use Rattle.wrap_rules.specs.S2v.{xorend}
 use Rattle.siv.proofs.Vectors.{end_added, xorend_xorend}
 use Rattle.siv.proofs.s2v.add_to_end.Goals as goal
 

@@ -1,10 +1,7 @@
-use Rattle.group.specs.Calls.{admit}
-use Rattle.runs.proofs.Servers.{sound_after, run_after}
+use Rattle.server_rules.specs.Calls.{admit}
+use Rattle.server.proofs.Kept.{call_kept}
 use Rattle.server.proofs.server.Server.admit.Goals as goal
 
 pub invariant_of-self : goal.invariant_of-self
 invariant_of-self c =
-    let old = c.self.inside.state in
-    let call = (admit c.args.serial c.args.cradle) in
-    let is = c.admit.ensures.server in
-    (sound_after call tt old c.admit.new.state is c.self.invariant.0, run_after call tt old c.admit.new.state is c.self.invariant.1)
+    call_kept (admit c.args.serial c.args.cradle) tt c.self.inside.state c.admit.new.state c.admit.ensures.server c.self.invariant

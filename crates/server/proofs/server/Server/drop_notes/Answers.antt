@@ -1,10 +1,7 @@
-use Rattle.group.specs.Calls.{drop_notes}
-use Rattle.runs.proofs.Servers.{sound_after, run_after}
+use Rattle.server_rules.specs.Calls.{drop_notes}
+use Rattle.server.proofs.Kept.{call_kept}
 use Rattle.server.proofs.server.Server.drop_notes.Goals as goal
 
 pub invariant_of-self : goal.invariant_of-self
 invariant_of-self c =
-    let old = c.self.inside.state in
-    let call = drop_notes in
-    let is = c.drop_notes.ensures in
-    (sound_after call tt old c.drop_notes.new.state is c.self.invariant.0, run_after call tt old c.drop_notes.new.state is c.self.invariant.1)
+    call_kept drop_notes tt c.self.inside.state c.drop_notes.new.state c.drop_notes.ensures c.self.invariant

@@ -1,4 +1,4 @@
-use Rattle.runs.proofs.Servers.{law_of}
+use Rattle.law.proofs.Servers.{law_of}
 use Rattle.server.proofs.server.Server.group_key.Goals as goal
 
 pub returns-clause-belongs_to_members : goal.returns-clause-belongs_to_members

@@ -1,5 +1,5 @@
 use Rattle.std.proofs.Common.{refl}
-use Rattle.group.specs.Calls.{admit}
+use Rattle.server_rules.specs.Calls.{admit}
 use Rattle.site.proofs.Sites.{keeps_files}
 use Rattle.site.proofs.site.Site.admit.Goals as goal
 

@@ -1,5 +1,5 @@
 use Rattle.std.proofs.Common.{refl}
-use Rattle.group.specs.Calls.{drop_notes}
+use Rattle.server_rules.specs.Calls.{drop_notes}
 use Rattle.site.proofs.Sites.{keeps_files}
 use Rattle.site.proofs.site.Site.drop_notes.Goals as goal
 

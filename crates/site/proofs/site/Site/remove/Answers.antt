@@ -1,5 +1,5 @@
 use Rattle.std.proofs.Common.{refl}
-use Rattle.group.specs.Calls.{remove}
+use Rattle.server_rules.specs.Calls.{remove}
 use Rattle.site.proofs.Sites.{keeps_files}
 use Rattle.site.proofs.site.Site.remove.Goals as goal
 

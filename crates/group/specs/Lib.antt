@@ -1,9 +1,0 @@
-pub mod States
-pub mod Draws
-pub mod Calls
-pub mod Notes
-pub mod Cards
-pub mod Publishings
-pub mod Steps
-pub mod Sound
-pub mod Laws

@@ -1,2 +1,0 @@
-pub mod Decoding
-pub mod Showing

@@ -1,0 +1,2 @@
+pub mod Kinds
+pub use Rattle.wrap.specs.Meaning

@@ -1,3 +1,0 @@
-pub mod Sixteen
-pub mod Steps
-pub mod Words

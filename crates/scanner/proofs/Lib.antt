@@ -1,9 +1,0 @@
-pub mod Searches
-pub mod Refusals
-pub mod Rings
-pub mod Shows
-pub mod Openings
-pub mod Climbs
-pub mod Readings
-pub mod Ways
-pub mod EveryPlayer

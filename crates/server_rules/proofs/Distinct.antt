@@ -1,0 +1,39 @@
+-- Lists in which no element occurs twice.
+use Rattle.std.proofs.Common.{ℕ, zero, suc, ◌+◌, ◌<◌, ◌≤◌, Bool, true, false, cond, List, [], ◌∷◌, ◌++◌, filter, refl, inl, inr, arith}
+use Rattle.std.specs.List.{range_with_len}
+use Rattle.tree.specs.Tree.{countdown}
+use Rattle.tree.specs.Plans.{In}
+use Rattle.tree.proofs.Members.{in_append, in_kept, in_counting}
+
+-- no number is equal to one behind it
+abbrev pub HasNoRepeats : List ℕ → Type 0
+HasNoRepeats [] = Unit {0}
+HasNoRepeats (x ∷ xs) = (In x xs → ⊥) × HasNoRepeats xs
+
+pub distinct_append : (xs ys : List ℕ) → HasNoRepeats xs → HasNoRepeats ys → ((x : ℕ) → In x xs → In x ys → ⊥) → HasNoRepeats (xs ++ ys)
+distinct_append [] ys dx dy apart = dy
+distinct_append (x ∷ xs) ys dx dy apart = (
+  (λ h. elim (in_append xs ys x h) [ inl i ↦ dx.0 i | inr j ↦ apart x (inl refl) j ]),
+  distinct_append xs ys dx.1 dy (λ z i j. apart z (inr i) j),
+)
+
+pub distinct_kept : (test : ℕ → Bool) (xs : List ℕ) → HasNoRepeats xs → HasNoRepeats (filter test xs)
+distinct_kept test [] d = tt
+distinct_kept test (x ∷ xs) d = go (test x) (distinct_kept test xs d.1)
+  where
+    go : (b : Bool) → HasNoRepeats (filter test xs) → HasNoRepeats (cond b (x ∷ filter test xs) (filter test xs))
+    go true r = ((λ h. d.0 (in_kept test xs x h).0), r)
+    go false r = r
+
+pub distinct_counting : (a n : ℕ) → HasNoRepeats (range_with_len a n)
+distinct_counting a zero = tt
+distinct_counting a (suc n) = ((λ h. omega (arith, (in_counting (a + 1) n a h).0)), distinct_counting (a + 1) n)
+
+pub in_falling : (k i : ℕ) → In i (countdown k) → (0 < i) × (i ≤ k)
+in_falling zero i h = absurd h
+in_falling (suc k) i (inl e) = (omega arith, omega arith)
+in_falling (suc k) i (inr h) = let r = in_falling k i h in (r.0, omega arith)
+
+pub distinct_falling : (k : ℕ) → HasNoRepeats (countdown k)
+distinct_falling zero = tt
+distinct_falling (suc k) = ((λ h. omega (arith, (in_falling k (suc k) h).1)), distinct_falling k)

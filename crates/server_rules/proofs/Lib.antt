@@ -1,0 +1,10 @@
+pub mod Rows
+pub mod Distinct
+pub mod Renewals
+pub mod Publishings
+pub mod Ranges
+pub mod Verdicts
+pub mod Sounds
+pub mod FilesSound
+pub mod OneProof
+pub mod EveryCall

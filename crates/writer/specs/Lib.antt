@@ -1,2 +1,0 @@
-pub mod Refusals
-pub mod Calls
