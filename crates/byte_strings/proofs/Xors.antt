@@ -71,14 +71,11 @@ front_more s x out i e h k =
     ∙ ap (λ l. l ++ drop (i + 1) s) (sym (ap (λ n. xors (take n s) (take n x)) (add-one i) ∙ xors_suc s x i h k))
 
 -- the string ends first, or what is added does
-front_ends : (s x : List ℕ) (i : ℕ) → i ≡ min (length s) (length x) → xors_front s x i ≡ xors s x
+pub front_all : (s x : List ℕ) (i : ℕ) → i ≡ min (length s) (length x) → xors_front s x i ≡ xors s x
 unfolding xors_front
-front_ends [] x zero e = refl
-front_ends [] x (suc i) e = absurd (omega arith)
-front_ends (y ∷ s) [] zero e = refl
-front_ends (y ∷ s) [] (suc i) e = absurd (omega arith)
-front_ends (y ∷ s) (x ∷ xs) zero e = absurd (omega arith)
-front_ends (y ∷ s) (x ∷ xs) (suc i) e = ap (λ l. bit_xor y x ∷ l) (front_ends s xs i (omega arith))
-
-pub front_all : (s x out : List ℕ) (i : ℕ) → out ≡ xors_front s x i → i ≡ min (length s) (length x) → out ≡ xors s x
-front_all s x out i e h = e ∙ front_ends s x i h
+front_all [] x zero e = refl
+front_all [] x (suc i) e = absurd (omega arith)
+front_all (y ∷ s) [] zero e = refl
+front_all (y ∷ s) [] (suc i) e = absurd (omega arith)
+front_all (y ∷ s) (x ∷ xs) zero e = absurd (omega arith)
+front_all (y ∷ s) (x ∷ xs) (suc i) e = ap (λ l. bit_xor y x ∷ l) (front_all s xs i (omega arith))

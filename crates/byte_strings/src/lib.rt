@@ -33,6 +33,7 @@ fn common_length(a: &[u8], b: &[u8]) -> usize
 }
 
 /// Adds `x` to `s` by exclusive or, as far as the shorter of the two reaches.
+#[tactic(auto, using(crate::proofs::Xors::front_none, crate::proofs::Xors::front_more, crate::proofs::Xors::front_all))]
 pub fn xor_into(s: &mut [u8], x: &[u8])
     ensures { s.new ≡ xors s.old x.now }
 {

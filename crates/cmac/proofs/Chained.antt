@@ -21,14 +21,17 @@ module _ (e : List ℕ → List ℕ) where
       ap (λ (l : List ℕ). e (xors (m_last e l) (absorbed y (first_chunks 16 n (drop 16 m))))) (ap (λ (k : ℕ). drop k m) on ∙ sym (drop-drop (16 * n) 16 m))
       ∙ chain_folds n y (drop 16 m)
 
-  -- the blocks that stand in the part of the message before the last
-  pub cmac_folds : (m : List ℕ) → let n = blocks_before_last (length m) in
-      e (xors (m_last e (drop (16 * n) m)) (fold (λ x b. e (xors x b)) zeros (first_chunks 16 (length (take (16 * n) m) / 16) (take (16 * n) m)))) ≡ cmac e m
+  -- the tag, from the message cut before its last block
+  pub cmac_folds : (m front last : List ℕ) → front ≡ take (16 * blocks_before_last (length m)) m → last ≡ drop (16 * blocks_before_last (length m)) m →
+      cmac e m ≡ e (xors (m_last e last) (fold (λ x b. e (xors x b)) zeros (first_chunks 16 (length front / 16) front)))
   unfolding cmac absorbed
-  cmac_folds m =
+  cmac_folds m front last is_front is_last =
       let n = blocks_before_last (length m) in
       let many : length (take (16 * blocks_before_last (length m)) m) / 16 ≡ blocks_before_last (length m) =
       omega (arith, length-take (16 * blocks_before_last (length m)) m) in
-      ap (λ (bs : List (List ℕ)). e (xors (m_last e (drop (16 * n) m)) (absorbed zeros bs)))
+      sym (
+      (λ j. e (xors (m_last e (is_last j)) (absorbed zeros (first_chunks 16 (length (is_front j) / 16) (is_front j)))))
+      ∙ ap (λ (bs : List (List ℕ)). e (xors (m_last e (drop (16 * n) m)) (absorbed zeros bs)))
       (ap (λ (k : ℕ). first_chunks 16 k (take (16 * n) m)) many ∙ chunks_front 16 n (16 * n) m (omega arith))
       ∙ chain_folds n zeros m
+      )

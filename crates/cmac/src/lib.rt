@@ -52,6 +52,7 @@ fn one_bit(at: usize) -> [u8; 16]
 }
 
 /// RFC 4493, 2.4, padding: the bytes of a block that is not whole, filled up to 16.
+#[tactic(auto, using(crate::proofs::Padded::padded))]
 pub fn pad(m: &[u8]) -> [u8; 16]
     requires { length m.now < 16 }
     ensures { result ≡ padding m.now }
@@ -102,6 +103,7 @@ fn absorb(w: Schedule<'_>, blocks: &[[u8; 16]]) -> [u8; 16]
 }
 
 /// RFC 4493, 2.4, AES-CMAC: the tag, of 16 bytes, of the message `m` of any length.
+#[tactic(auto, using(crate::proofs::Chained::cmac_folds))]
 pub fn mac(w: Schedule<'_>, m: &[u8]) -> [u8; 16]
     ensures { result ≡ cmac_of (cipher_of w.entry) m.now }
 {

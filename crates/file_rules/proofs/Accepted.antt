@@ -5,8 +5,7 @@ use Rattle.byte_strings.specs.Numbers.{byte_at, be_number4}
 use Rattle.byte_strings.specs.Strings.{IsBytes}
 use Rattle.byte_strings.proofs.Parts.{at_byte, part_sized}
 use Rattle.tree.specs.Tree.{is_within}
-use Rattle.tree.specs.Plans.{In}
-use Rattle.tree.proofs.Members.{in_contains, contains_in, some_who}
+use Rattle.tree.proofs.Members.{In, in_contains, contains_in, some_who}
 use Rattle.tree.proofs.Halvings.{within_is}
 use Rattle.file_rules.specs.Fields.{fault_in}
 use Rattle.file_rules.specs.Files.{WrappedKey}

@@ -2,11 +2,11 @@
 use Rattle.std.proofs.Common.{◌≡◌, ℕ, suc, ◌+◌, ◌<◌, ◌≤◌, true, List, [], ◌∷◌, ◌++◌, length, drop, inl, inr, sym, ap, ◌∙◌, subst, arith}
 use Rattle.byte_strings.specs.Numbers.{byte_at}
 use Rattle.byte_strings.specs.Strings.{IsBytes}
-use Rattle.tree.specs.Plans.{In}
 use Rattle.file_rules.specs.Layout.{is_valid_node, node_fields}
 use Rattle.file_rules.specs.Laws.{Falls}
 use Rattle.file_rules.proofs.Passing.{AllPass}
 use Rattle.file_rules.proofs.Places.{at_first, further}
+use Rattle.tree.proofs.Members.{In}
 
 pub falls_more : (b n : ℕ) (ns : List ℕ) → n < b → Falls n ns → Falls b (n ∷ ns)
 falls_more b n [] h f = absurd f

@@ -8,8 +8,7 @@ use Rattle.byte_strings.specs.Numbers.{be_bytes2, byte_at, be_number2, be_number
 use Rattle.byte_strings.specs.Strings.{IsBytes}
 use Rattle.byte_strings.proofs.Parts.{append_bytes}
 use Rattle.file_rules.specs.Fields.{fault_in}
-use Rattle.tree.specs.Plans.{In}
-use Rattle.tree.proofs.Members.{in_contains}
+use Rattle.tree.proofs.Members.{In, in_contains}
 use Rattle.file_rules.specs.Files.{WrappedKey, Rekey, file_bytes, head_bytes, nodes_bytes, wrap_bytes, wraps_bytes, file_size}
 use Rattle.file_rules.specs.Layout.{is_between, is_exactly, head_fields, node_fields, count_fields, wraps_fields, nodes_of, wrap_count, layout_fault}
 use Rattle.file_rules.specs.Reading.{wraps_from, parsed_file}

@@ -7,9 +7,8 @@ use Rattle.std.proofs.lemmas.List.{take_at, drop_at, length-append}
 use Rattle.byte_strings.specs.Numbers.{byte_at, be_number4}
 use Rattle.byte_strings.specs.Strings.{IsBytes, part}
 use Rattle.byte_strings.proofs.Parts.{append_bytes}
-use Rattle.tree.specs.Plans.{In}
 use Rattle.tree.proofs.Halvings.{within_from}
-use Rattle.tree.proofs.Members.{contains_in, some_from}
+use Rattle.tree.proofs.Members.{In, contains_in, some_from}
 use Rattle.keys.specs.Names.{name_bytes}
 use Rattle.file_rules.specs.Fields.{FileField}
 use Rattle.file_rules.specs.Files.{WrappedKey, wrap_bytes}

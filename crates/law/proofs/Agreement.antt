@@ -6,8 +6,7 @@ use Rattle.tree.specs.declared.types.Code.{Code}
 use Rattle.tree.specs.Rows.{code_at}
 use Rattle.tree.specs.Rows as rows
 use Rattle.std.specs.List.{list_any}
-use Rattle.tree.specs.Plans.{In}
-use Rattle.tree.proofs.Members.{in_append, in_map, in_kept}
+use Rattle.tree.proofs.Members.{In, in_append, in_map, in_kept}
 use Rattle.cradles.specs.declared.Cradle.{Cradle}
 use Rattle.cradles.specs.declared.Cradle.TheVariants.{Empty, Stays, Arrives, Departs, Swaps}
 use Rattle.cradles.specs.Cradles.{cradle_code, occupant, noted_arrival, holder, has_departure, with_arrival, with_departure, without_notes, after_change}

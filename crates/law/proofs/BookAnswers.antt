@@ -5,8 +5,7 @@ use Rattle.std.proofs.lemmas.Bool.{lt-ltb, le-ltb, ltb-true, ltb-false, eq-eqb, 
 use Rattle.std.proofs.lemmas.Option.{none-some}
 use Rattle.refusal.specs.Refusals.{Verdict, refusal}
 use Rattle.std.specs.List.{list_any}
-use Rattle.tree.specs.Plans.{In}
-use Rattle.tree.proofs.Members.{some_from, some_who, in_contains, contains_in}
+use Rattle.tree.proofs.Members.{In, some_from, some_who, in_contains, contains_in}
 use Rattle.cradles.specs.Cradles.{occupant, noted_arrival, holder, has_departure, is_cradle, IsCradle}
 use Rattle.cradles.proofs.Notes
 use Rattle.server_rules.specs.declared.state.State.{State}

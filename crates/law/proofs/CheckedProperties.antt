@@ -1,7 +1,6 @@
 -- What admit checks of a serial and a cradle holds of all stays, and of all noted arrivals.
 use Rattle.std.proofs.Common.{◌≡◌, ℕ, Bool, true, List, [], ◌∷◌, map, filter, inl, inr}
-use Rattle.tree.specs.Plans.{In}
-use Rattle.tree.proofs.Members.{in_append, in_map, in_kept, contains_in}
+use Rattle.tree.proofs.Members.{In, in_append, in_map, in_kept, contains_in}
 use Rattle.server_rules.specs.Calls.{Call, admit}
 use Rattle.law.proofs.InBook.{stay_in}
 use Rattle.law.specs.Book.{Book, Seat, Arrival, Stay, new_book, is_departing, stay_to, book_of_next_epoch, book_with_call}

@@ -1,7 +1,7 @@
 -- The numbers from k down to 1.
 use Rattle.std.proofs.Common.{◌≡◌, ℕ, zero, suc, ◌+◌, ◌<◌, ◌≤◌, ◌∷◌, ap, ◌∙◌, sym, inl, inr, arith}
 use Rattle.tree.specs.Tree.{countdown}
-use Rattle.tree.specs.Plans.{In}
+use Rattle.tree.proofs.Members.{In}
 
 pub in_falling : (k i : ℕ) → In i (countdown k) → (0 < i) × (i ≤ k)
 in_falling zero i h = absurd h

@@ -2,11 +2,11 @@
 use Rattle.std.proofs.Common.{◌≡◌, ℕ, ◌+◌, ◌≤◌, Bool, true, false, not, ◌&&◌, List, [], ◌∷◌, length, filter, leb, refl, sym, ap, ◌∙◌, inl, inr, subst₂, arith}
 use Rattle.std.proofs.Common.{Ok, cond}
 use Rattle.std.proofs.lemmas.Bool.{and_from, and_left, and_right, le-leb, lt-leb}
-use Rattle.tree.specs.Plans.{In}
 use Rattle.player_rules.specs.Laws.{PlayerLaws}
 use Rattle.player_rules.specs.Players.{Player, waiting, PlayerNumbers, PlayerCall, enrol_verdict, ring_after_enrol, is_player_refused, player_after, ring_after}
 use Rattle.law.specs.Runs.{Edition}
 use Rattle.law.specs.Players.{LentRing, own, other, lent_ring, own_ring_after, IsAside, Course, enrolled, aside, handed, files_from_to, read_of}
+use Rattle.tree.proofs.Members.{In}
 
 module _ (laws : PlayerLaws) where
   -- showing and refusing change nothing

@@ -5,8 +5,7 @@ use Rattle.std.proofs.lemmas.List.{length-map}
 use Rattle.refusal.specs.Refusals.{Refusal, Verdict, refusal}
 use Rattle.tree.specs.declared.types.Pair.{Pair}
 use Rattle.tree.specs.Rows.{changed_nodes}
-use Rattle.tree.specs.Plans.{In}
-use Rattle.tree.proofs.Members.{in_map, map_in, in_contains, contains_in}
+use Rattle.tree.proofs.Members.{In, in_map, map_in, in_contains, contains_in}
 use Rattle.keys.specs.declared.KeyName.{KeyName}
 use Rattle.keys.specs.Names.{Keys, key_name, keys_in}
 use Rattle.file_rules.specs.Files.{Rekey, WrappedKey, file_bytes, file_size}

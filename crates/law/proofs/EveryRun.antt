@@ -1,13 +1,12 @@
 -- After any calls, group keys are reached exactly by members.
 use Rattle.std.proofs.Common.{ℕ, ◌<◌, ◌≤◌, ◌↔◌, List, refl, sym, ap, subst, inl, inr, arith, length, ◌≡◌, Ok, ◌++◌, drop, ◌∙◌, [], ◌∷◌, Bool, true, replicate}
 use Rattle.std.proofs.Common.{lit≤, take, take_at, Contains}
-use Rattle.tree.specs.Plans.{In}
 use Rattle.keys.specs.declared.KeyName.{KeyName}
 use Rattle.keys.specs.Names.{key_name, keys_in}
 use Rattle.server_rules.specs.Sound.{IsSoundServer}
 use Rattle.server_rules.proofs.EveryCall.{state_laws}
 use Rattle.player_rules.proofs.EveryPlayer.{player_laws}
-use Rattle.tree.proofs.Members.{in_map, falling_in, in_contains, contains_in}
+use Rattle.tree.proofs.Members.{In, in_map, falling_in, in_contains, contains_in}
 use Rattle.law.proofs.InBook.{IsStayIn, stay_in}
 use Rattle.law.specs.Book.{Stay, Covers, IsMember}
 use Rattle.server_rules.specs.Calls.{Call}

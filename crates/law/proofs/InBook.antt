@@ -1,7 +1,6 @@
 -- The book's words over `In`, as proofs go over lists, and the bridges to the law's own.
 use Rattle.std.proofs.Common.{◌≡◌, ℕ, inl, inr}
-use Rattle.tree.specs.Plans.{In}
-use Rattle.tree.proofs.Members.{in_contains, contains_in}
+use Rattle.tree.proofs.Members.{In, in_contains, contains_in}
 use Rattle.law.specs.Book.{Book, Seat, Stay, IsSeated, IsArriving, IsStay}
 use Rattle.law.proofs.SteadyStays.{IsStayOf}
 
@@ -24,9 +23,6 @@ stay_in b s (inr i) = inr (contains_in b.ended s i)
 pub in_stay : (b : Book) (s : Stay) → IsStayIn b s → IsStay b s
 in_stay b s (inl i) = inl (in_contains b.seats s.seat i.0, i.1)
 in_stay b s (inr i) = inr (in_contains b.ended s i)
-
-pub seat_in : (b : Book) (x c : ℕ) → IsSeated b x c → SitsIn b x c
-seat_in b x c t = (t.0, (contains_in b.seats t.0 t.1.0, t.1.1))
 
 pub in_seat : (b : Book) (x c : ℕ) → SitsIn b x c → IsSeated b x c
 in_seat b x c t = (t.0, (in_contains b.seats t.0 t.1.0, t.1.1))

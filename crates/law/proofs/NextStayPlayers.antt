@@ -7,7 +7,6 @@ use Rattle.refusal.specs.Refusals.{Verdict}
 use Rattle.tree.specs.declared.types.Code.TheVariants.{Stays}
 use Rattle.tree.specs.Tree.{IsLeaf}
 use Rattle.tree.specs.Rows.{code_at, is_changed}
-use Rattle.tree.specs.Plans.{In}
 use Rattle.tree.proofs.Halvings.{within_self}
 use Rattle.tree.proofs.Standing.{changed_inner}
 use Rattle.keys.specs.declared.NodeKey.{NodeKey}
@@ -25,7 +24,7 @@ use Rattle.player_rules.specs.Rings.{entry_bytes, ring_bytes, path_entries}
 use Rattle.player_rules.specs.Players.{PlayerNumbers, player_numbers, Player, waiting, seated, read_verdict, show_verdict, is_player_refused, player_after}
 use Rattle.player_rules.specs.Players.{ring_after, enrol_verdict, ring_after_enrol}
 use Rattle.player_rules.specs.Laws.{PlayerLaws}
-use Rattle.tree.proofs.Members.{in_contains, contains_in}
+use Rattle.tree.proofs.Members.{In, in_contains, contains_in}
 use Rattle.law.proofs.InBook.{IsStayIn}
 use Rattle.law.proofs.Readings.{staying_reads, arriving_reads}
 use Rattle.law.specs.Book.{Book, Seat, Stay, book_of_next_epoch, stay_to}

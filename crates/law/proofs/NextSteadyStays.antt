@@ -8,7 +8,7 @@ use Rattle.tree.specs.declared.types.Opener.TheVariants.{Present, Former}
 use Rattle.tree.specs.declared.types.Pair.{Pair}
 use Rattle.tree.specs.Tree.{IsWithin, IsBeneath}
 use Rattle.tree.specs.Rows.{code_at, is_change_code, is_occupied_after as seats_code, is_stay_code, is_departure_code, stands_within, is_changed, is_occupied}
-use Rattle.tree.specs.Plans.{In, pair, IsKnownAt, IsLawfulPlan}
+use Rattle.tree.specs.Plans.{pair, IsKnownAt, IsLawfulPlan}
 use Rattle.tree.proofs.Halvings.{beneath_greater, halved_low, within_self, within_trans, within_cases, beneath_within}
 use Rattle.tree.proofs.Standing.{stands_from, changed_inner, occupied_leaf}
 use Rattle.tree.proofs.LawfulPlans.{plan_content, plan_opener, plan_served}
@@ -23,6 +23,7 @@ use Rattle.law.specs.Book.{Seat, Stay, Covers}
 use Rattle.chains.proofs.Chains.{IsReachedByLinks, given, opened, followed_more}
 use Rattle.law.proofs.Renewals.{ChangesAbove, renewed_node, renewed_leaf, emptied_leaf, untouched, above, made_past}
 use Rattle.law.proofs.SteadyStays.{IsStayOf, leaf_at, IsLeafKeyName, IsSteadySeat, IsSteadyStay, IsRightLink, IsSteady, cradled_leaf}
+use Rattle.tree.proofs.Members.{In}
 
 -- a seat and an ended stay after a publishing, by the code of its cradle in the row
 pub data IsSeatAfter (epoch : ℕ) (seats : List Seat) (row : List Code) (t : Seat) : Type 0 where
@@ -69,11 +70,7 @@ module _ (epoch : ℕ) (row : List Code) (plan : List Pair) (material : List ℕ
     (seats seats′ : List Seat) (ended ended′ : List Stay) (link link′ : KeyName → KeyName → Type 0)
     (old : IsSteady epoch seats ended (λ n. (former n).made) link)
     (new : IsChange epoch row plan material former present seats seats′ ended ended′ link link′) where
-  -- a stay before the publishing
-  abbrev IsStayBefore : Stay → Type 0
-  IsStayBefore = IsStayOf epoch seats ended
-
-  -- a stay after it
+  -- a stay after the publishing
   abbrev IsStayAfter : Stay → Type 0
   IsStayAfter = IsStayOf (epoch + 1) seats′ ended′
 

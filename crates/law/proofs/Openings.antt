@@ -7,8 +7,8 @@ use Rattle.tree.specs.declared.types.Opener.{Opener}
 use Rattle.tree.specs.declared.types.Opener.TheVariants.{Present, Former}
 use Rattle.tree.specs.declared.types.Pair.{Pair}
 use Rattle.tree.specs.Rows.{code_at, is_changed}
-use Rattle.tree.specs.Plans.{In, IsLawfulPlan}
-use Rattle.tree.proofs.Members.{in_map, map_in, in_contains}
+use Rattle.tree.specs.Plans.{IsLawfulPlan}
+use Rattle.tree.proofs.Members.{In, in_map, map_in, in_contains}
 use Rattle.tree.proofs.Standing.{changed_inner}
 use Rattle.tree.proofs.LawfulPlans.{plan_content}
 use Rattle.keys.specs.declared.NodeKey.{NodeKey}

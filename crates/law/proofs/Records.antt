@@ -4,8 +4,7 @@ use Rattle.std.proofs.Common.{refl, sym, ap, ◌∙◌, inl, inr, arith}
 use Rattle.std.proofs.Math.ListN.{get_or-map}
 use Rattle.std.proofs.lemmas.Bool.{cases_eq}
 use Rattle.std.proofs.lemmas.Option.{none-some}
-use Rattle.tree.specs.Plans.{In}
-use Rattle.tree.proofs.Members.{in_left, in_right, kept_in, map_in}
+use Rattle.tree.proofs.Members.{In, in_left, in_right, kept_in, map_in}
 use Rattle.cradles.specs.declared.Cradle.{Cradle}
 use Rattle.cradles.specs.declared.Cradle.TheVariants.{Empty}
 use Rattle.cradles.specs.Cradles.{occupant, noted_arrival, has_departure, with_arrival, with_departure, without_notes, after_change, IsCradle}

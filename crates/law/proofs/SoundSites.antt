@@ -3,7 +3,6 @@ use Rattle.std.proofs.Common.{◌≡◌, ℕ, zero, suc, ◌+◌, ◌-◌, ◌�
 use Rattle.std.proofs.Common.{◌∙◌, subst, inl, inr, arith, get_or-set_same, get_or-set_other, ap₂}
 use Rattle.std.proofs.Math.ListN.{get_or-map}
 use Rattle.std.proofs.lemmas.List.{length-map}
-use Rattle.tree.specs.Plans.{In}
 use Rattle.keys.specs.Names.{Keys, key_name, unmade_key, keys_in}
 use Rattle.file_rules.specs.Sealing.{opener_name}
 use Rattle.cradles.specs.declared.Cradle.{Cradle}
@@ -20,7 +19,7 @@ use Rattle.server_rules.specs.Sound.{IsSoundServer}
 use Rattle.server_rules.specs.Laws.{IsRenewal, StateLaws}
 use Rattle.server_rules.proofs.Verdicts.{plan_passed}
 use Rattle.tree.specs.Tree.{countdown}
-use Rattle.tree.proofs.Members.{map_in, contains_in}
+use Rattle.tree.proofs.Members.{In, map_in, contains_in}
 use Rattle.law.proofs.AcceptedCalls.{site_after_admit, site_after_remove, after_call, run_sound}
 use Rattle.law.proofs.CheckedProperties.{HoldsInBook, holds_next, holds_admitted, holds_at_first}
 use Rattle.law.proofs.Countdowns.{in_falling, falling_next}

@@ -1,7 +1,6 @@
 -- What the player of a stay does, in so far as it follows the files of one site.
 use Rattle.std.proofs.Common.{◌≡◌, ℕ, ◌+◌, Bool, true, false, not, cond, List, [], length, Ok, eqb, is_err, refl, ap, ◌∙◌, eqb-true, true≢false}
 use Rattle.refusal.specs.Refusals.{Verdict, refusal, new_or_old}
-use Rattle.tree.specs.Plans.{In}
 use Rattle.keys.specs.declared.NodeKey.{NodeKey}
 use Rattle.keys.specs.Names.{Keys}
 use Rattle.wrap.specs.Meaning.{WrapMeaning}
@@ -13,6 +12,7 @@ use Rattle.law.specs.Book.{Seat, Stay, Covers}
 use Rattle.law.specs.Runs.{Edition}
 use Rattle.law.specs.Players.{Course, files_from_to, HoldsGroupKey, card_of}
 use Rattle.law.proofs.SteadyStays.{leaf_at}
+use Rattle.tree.proofs.Members.{In}
 
 -- the player is where the server is: seated in its epoch, and its ring holds the keys of all nodes from its leaf to the root
 pub record MatchesServer (epoch : ℕ) (keys : Keys) (t : Seat) (p : Player) (ring : List ℕ) : Type 0 where

@@ -1,7 +1,6 @@
 -- What holds of seats, ended stays, the epochs of keys and links after any calls, and that a publishing keeps it.
 use Rattle.std.proofs.Common.{◌≡◌, ℕ, ◌<◌, ◌≤◌, ◌⊎◌, List, arith}
 use Rattle.tree.specs.Tree.{IsWithin, IsLeaf}
-use Rattle.tree.specs.Plans.{In}
 use Rattle.keys.specs.declared.KeyName.{KeyName}
 use Rattle.keys.specs.Names.{key_name}
 use Rattle.server_rules.specs.States.{leaf_of}
@@ -9,6 +8,7 @@ use Rattle.cradles.specs.Cradles.{IsCradle}
 use Rattle.law.specs.Book.{Seat, Stay, Covers}
 use Rattle.law.specs.Law.{leaf_key_name}
 use Rattle.chains.proofs.Chains.{IsReachedByLinks}
+use Rattle.tree.proofs.Members.{In}
 
 -- a stay of a book with this epoch, these seats and these ended stays
 abbrev pub IsStayOf : ℕ → List Seat → List Stay → Stay → Type 0

@@ -10,8 +10,8 @@ use Rattle.tree.specs.declared.types.Opener.{Opener}
 use Rattle.tree.specs.declared.types.Opener.TheVariants.{Present, Former}
 use Rattle.tree.specs.Tree.{IsLeaf, ancestor}
 use Rattle.tree.specs.Rows.{code_at, is_changed, is_occupied, changed_nodes}
-use Rattle.tree.specs.Plans.{In, pair, IsKnownAt}
-use Rattle.tree.proofs.Members.{map_in, some_who}
+use Rattle.tree.specs.Plans.{pair, IsKnownAt}
+use Rattle.tree.proofs.Members.{In, map_in, some_who}
 use Rattle.tree.proofs.Halvings.{beneath_greater, same_test}
 use Rattle.tree.proofs.Standing.{changed_in, in_changed}
 use Rattle.tree.proofs.LawfulPlans.{plan_served}

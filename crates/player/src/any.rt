@@ -36,7 +36,7 @@ impl From<Waiting> for AnyPlayer {
     ghost from_gives = { λ p a. a ≡ any.Waiting p };
 
     fn from(player: Waiting) -> AnyPlayer {
-        AnyPlayer::Waiting(player)
+        Self::Waiting(player)
     }
 }
 
@@ -44,7 +44,7 @@ impl From<Seated> for AnyPlayer {
     ghost from_gives = { λ p a. a ≡ any.Seated p };
 
     fn from(player: Seated) -> AnyPlayer {
-        AnyPlayer::Seated(player)
+        Self::Seated(player)
     }
 }
 
@@ -52,7 +52,7 @@ impl From<Wiped> for AnyPlayer {
     ghost from_gives = { λ p a. a ≡ any.Wiped p };
 
     fn from(player: Wiped) -> AnyPlayer {
-        AnyPlayer::Wiped(player)
+        Self::Wiped(player)
     }
 }
 

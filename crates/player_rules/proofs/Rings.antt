@@ -6,12 +6,12 @@ use Rattle.std.proofs.lemmas.List.{take_at, drop_at, length-append}
 use Rattle.byte_strings.specs.Numbers.{be_number4}
 use Rattle.byte_strings.specs.Strings.{part}
 use Rattle.tree.specs.Tree.{IsLeaf, IsInner, IsBeneath, ancestor}
-use Rattle.tree.specs.Plans.{In}
 use Rattle.tree.proofs.Halvings.{halved_add, halved_low}
 use Rattle.keys.specs.declared.NodeKey.{NodeKey}
 use Rattle.keys.specs.Names.{unmade_key}
 use Rattle.file_rules.proofs.Places.{further, number4_at, big4_back}
 use Rattle.player_rules.specs.Rings.{entry_at, entries, entry_bytes, ring_bytes}
+use Rattle.tree.proofs.Members.{In}
 
 -- an epoch of four bytes, and a key of 32
 abbrev pub IsFitting : NodeKey → Type 0

@@ -8,8 +8,7 @@ use Rattle.byte_strings.specs.Strings.{part}
 use Rattle.byte_strings.proofs.Parts.{middle_part}
 use Rattle.refusal.specs.Refusals.{refusal}
 use Rattle.tree.specs.Tree.{IsLeaf, ancestor}
-use Rattle.tree.specs.Plans.{In}
-use Rattle.tree.proofs.Members.{in_map}
+use Rattle.tree.proofs.Members.{In, in_map}
 use Rattle.keys.specs.declared.NodeKey.{NodeKey}
 use Rattle.keys.specs.Names.{Keys}
 use Rattle.player_rules.proofs.Rings.{ring_long}

@@ -1,10 +1,8 @@
 //! The refusals of the server's calls.
 ghost use Rattle.std.specs.Prelude.{◌≡◌};
 ghost use Rattle.tree.specs.Calls.{plan_refusal};
-ghost use Rattle.file_writer.specs.Refusals.{write_refusal};
 ghost use Rattle.server.specs.Refusals.{admit_refusal, remove_refusal, card_refusal, publish_refusal};
 
-use file_writer::WriteFault;
 use tree::PlanFault;
 
 /// Why an arrival was not noted.
@@ -121,17 +119,6 @@ impl From<PlanFault> for PublishFault {
     fn from(fault: PlanFault) -> PublishFault {
         match fault {
             PlanFault::ShortPairs { needed } => PublishFault::ShortPairs { needed },
-        }
-    }
-}
-
-impl From<WriteFault> for PublishFault {
-    ghost from_gives = { λ fault publish. publish_refusal publish ≡ write_refusal fault };
-
-    fn from(fault: WriteFault) -> PublishFault {
-        match fault {
-            WriteFault::ShortWorking => PublishFault::ShortWorking,
-            WriteFault::ShortFile { needed } => PublishFault::ShortFile { needed },
         }
     }
 }

@@ -2,8 +2,7 @@
 use Rattle.std.proofs.Common.{ℕ, zero, suc, ◌+◌, ◌<◌, ◌≤◌, Bool, true, false, cond, List, [], ◌∷◌, ◌++◌, filter, refl, inl, inr, arith}
 use Rattle.std.specs.List.{range_with_len}
 use Rattle.tree.specs.Tree.{countdown}
-use Rattle.tree.specs.Plans.{In}
-use Rattle.tree.proofs.Members.{in_append, in_kept, in_counting}
+use Rattle.tree.proofs.Members.{In, in_append, in_kept, in_counting}
 
 -- no number is equal to one behind it
 abbrev pub HasNoRepeats : List ℕ → Type 0

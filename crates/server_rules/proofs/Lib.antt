@@ -6,5 +6,4 @@ pub mod Ranges
 pub mod Verdicts
 pub mod Sounds
 pub mod FilesSound
-pub mod OneProof
 pub mod EveryCall

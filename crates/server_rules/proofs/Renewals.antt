@@ -12,8 +12,7 @@ use Rattle.tree.specs.declared.types.Code.{Code}
 use Rattle.tree.specs.declared.types.Code.TheVariants.{Empty, Stays, Arrives, Departs, Swaps}
 use Rattle.tree.specs.Tree.{IsLeaf, tree_leaves, inner_nodes, countdown}
 use Rattle.tree.specs.Rows.{code_at, is_changed, changed_nodes, is_occupied_after, is_change_code}
-use Rattle.tree.specs.Plans.{In}
-use Rattle.tree.proofs.Members.{in_append, in_left, in_right, in_kept, kept_in, in_counting, counting_in}
+use Rattle.tree.proofs.Members.{In, in_append, in_left, in_right, in_kept, kept_in, in_counting, counting_in}
 use Rattle.tree.proofs.Standing.{changed_inner, changed_in, in_changed}
 use Rattle.cradles.specs.Draws.{has_arrival, is_emptied, arrival_leaves, emptied_leaves, receivers, drawn_size, keys_without, drawn_key, keys_with_draws}
 use Rattle.cradles.specs.Draws.{keys_after_change}

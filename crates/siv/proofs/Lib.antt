@@ -1,1 +1,1 @@
-pub mod Vectors
+pub mod Ends

@@ -20,6 +20,7 @@ fn gather(w: Schedule<'_>, d: [u8; 16], string: &[u8]) -> [u8; 16]
 }
 
 /// xorend, in place; a second time takes it back.
+#[tactic(auto, using(crate::proofs::Ends::end_added, crate::proofs::Ends::end_restored))]
 fn add_to_end(text: &mut [u8], d: [u8; 16])
     requires { 16 ≤ length text.old }
     ensures added { text.new ≡ xorend text.old d }
@@ -50,6 +51,7 @@ fn mac_padded(w: Schedule<'_>, text: &[u8], d: [u8; 16]) -> [u8; 16]
 }
 
 /// S2V of one associated string and a text, which is as it was afterwards.
+#[tactic(auto, unfolding(wrap_rules::specs::S2v::s2v, wrap_rules::specs::S2v::last_string))]
 pub fn synthetic_iv(w: Schedule<'_>, string: &[u8], text: &mut [u8]) -> [u8; 16]
     ensures iv { result ≡ s2v_of (cipher_of w.entry) (string.now ∷ []) text.old }
     ensures kept { text.new ≡ text.old }

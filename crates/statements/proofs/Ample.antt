@@ -11,8 +11,8 @@ use Rattle.tree.specs.declared.types.Code.{Code}
 use Rattle.tree.specs.declared.types.Opener.TheVariants.{Present}
 use Rattle.tree.specs.Tree.{tree_leaves, inner_nodes}
 use Rattle.tree.specs.Rows.{code_at, is_changed, changed_nodes}
-use Rattle.tree.specs.Plans.{In, pair, IsLawfulStrategy}
-use Rattle.tree.proofs.Members.{contains_in}
+use Rattle.tree.specs.Plans.{pair, IsLawfulStrategy}
+use Rattle.tree.proofs.Members.{In, contains_in}
 use Rattle.strategy_rules.specs.Rules.{Rule, plan}
 use Rattle.strategy_rules.proofs.StarLaw.{star_lawful}
 use Rattle.strategy_rules.proofs.UserLaw.{user_oriented_lawful}

@@ -3,8 +3,7 @@ use Rattle.std.proofs.Common.{◌≡◌, ℕ, ◌≤◌, ◌<◌, Bool, true, no
 use Rattle.std.proofs.Common.{refl, sym, ap, ◌∙◌, subst, subst₂, inl, inr, lit<, lit≤, arith, is_err, drop, take_at, Contains}
 use Rattle.std.proofs.lemmas.List.{length-take-le}
 use Rattle.refusal.specs.Refusals.{Verdict, new_or_old}
-use Rattle.tree.specs.Plans.{In}
-use Rattle.tree.proofs.Members.{in_contains, contains_in}
+use Rattle.tree.proofs.Members.{In, in_contains, contains_in}
 use Rattle.server_rules.specs.declared.state.State.{State}
 use Rattle.server_rules.specs.declared.state.PublishReport.{PublishReport}
 use Rattle.server_rules.specs.States.{row, has_notes}

@@ -4,8 +4,7 @@ use Rattle.tree.specs.declared.types.Code.{Code}
 use Rattle.tree.specs.declared.types.Code.TheVariants.{Stays, Arrives, Departs}
 use Rattle.tree.specs.Tree.{is_within, tree_nodes, tree_leaves, inner_nodes}
 use Rattle.tree.specs.Rows.{stands_within, is_changed, is_occupied, changed_nodes}
-use Rattle.tree.specs.Plans.{In}
-use Rattle.tree.proofs.Members.{contains_in}
+use Rattle.tree.proofs.Members.{In, contains_in}
 use Rattle.strategy_rules.specs.Rules.{Rule, candidates, pairs_for, plan, star_rule, key_oriented_rule}
 use Rattle.file_rules.specs.Files.{file_size}
 use Rattle.server_rules.specs.States.{row}

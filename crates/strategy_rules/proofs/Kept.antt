@@ -1,6 +1,6 @@
 -- How many of a list pass a test.
 use Rattle.std.proofs.Common.{◌≡◌, ℕ, ◌+◌, ◌<◌, ◌≤◌, Bool, true, false, cond, ◌⊎◌, List, [], ◌∷◌, map, length, filter, sym, refl, ap, ◌∙◌, inl, inr, arith}
-use Rattle.tree.specs.Plans.{In}
+use Rattle.tree.proofs.Members.{In}
 
 -- 1 for a test that passes
 abbrev pub bit : Bool → ℕ

@@ -9,13 +9,14 @@ use Rattle.tree.specs.declared.types.Opener.TheVariants.{Present, Former}
 use Rattle.tree.specs.Tree.{ancestor, IsLeaf, IsInner, IsWithin, IsBeneath, is_leaf, is_beneath, tree_nodes}
 use Rattle.tree.specs.Rows.{is_occupied_after, is_stay_code, is_departure_code, is_arrival_in_empty, code_at, stands_within, is_changed, is_occupied}
 use Rattle.tree.specs.Rows.{former_serves}
-use Rattle.tree.specs.Plans.{In, MayOpen, IsLawfulPlan}
+use Rattle.tree.specs.Plans.{MayOpen, IsLawfulPlan}
 use Rattle.tree.proofs.Halvings.{beneath_within}
 use Rattle.tree.proofs.Standing.{stands_is, stands_from, changed_inner, occupied_leaf, occupied_up, former_is}
 use Rattle.strategy_rules.specs.Rules.{candidates, key_oriented_rule, is_child, plan}
 use Rattle.strategy_rules.proofs.Kept.{bit, kept_or}
 use Rattle.strategy_rules.proofs.Widths.{width, IsLeafUnder, leaf_under, under_from, leaves_fit_but, one_fits, children_fit}
 use Rattle.strategy_rules.proofs.Planned.{former_in, present_in, former_own, candidates_kept, IsServed, known_present, lawful}
+use Rattle.tree.proofs.Members.{In}
 
 arrives_only : (c : Code) → is_arrival_in_empty c ≡ true → c ≡ Arrives
 arrives_only Empty e = absurd (false≢true e)

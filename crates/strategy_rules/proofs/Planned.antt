@@ -9,8 +9,8 @@ use Rattle.tree.specs.declared.types.Opener.TheVariants.{Present, Former}
 use Rattle.tree.specs.declared.types.Pair.{Pair}
 use Rattle.tree.specs.Tree.{IsLeaf, IsInner, IsWithin, IsBeneath, tree_nodes}
 use Rattle.tree.specs.Rows.{is_changed, is_occupied, changed_nodes}
-use Rattle.tree.specs.Plans.{pair, In, MayOpen, IsKnownAt, IsLawfulPlan}
-use Rattle.tree.proofs.Members.{in_contains, contains_in, in_kept, kept_in, in_map, map_in, in_joined, joined_in}
+use Rattle.tree.specs.Plans.{pair, MayOpen, IsKnownAt, IsLawfulPlan}
+use Rattle.tree.proofs.Members.{In, in_contains, contains_in, in_kept, kept_in, in_map, map_in, in_joined, joined_in}
 use Rattle.tree.proofs.Halvings.{within_cases}
 use Rattle.tree.proofs.Standing.{changed_in, in_changed, changed_nodes_up_to, changed_none, changed_yes, changed_no, changed_all}
 use Rattle.strategy_rules.specs.Rules.{Rule, candidates, pairs_for, plan}

@@ -7,7 +7,7 @@ use Rattle.tree.specs.declared.types.Opener.{Opener}
 use Rattle.tree.specs.declared.types.Opener.TheVariants.{Present, Former}
 use Rattle.tree.specs.Tree.{ancestor, IsLeaf, IsInner, IsWithin, is_leaf, is_inner, is_within, is_beneath, tree_nodes}
 use Rattle.tree.specs.Rows.{is_changed, is_occupied}
-use Rattle.tree.specs.Plans.{In, MayOpen, IsLawfulPlan}
+use Rattle.tree.specs.Plans.{MayOpen, IsLawfulPlan}
 use Rattle.tree.proofs.Halvings.{halved_first, halved_low, leaf_is, leaf_from, inner_from, within_is, within_from, beneath_is, beneath_from, beneath_within}
 use Rattle.tree.proofs.Halvings.{within_cases, within_self, within_up, beneath_parent, beneath_child}
 use Rattle.tree.proofs.Standing.{changed_inner, changed_up, occupied_up}
@@ -15,6 +15,7 @@ use Rattle.strategy_rules.specs.Rules.{candidates, user_oriented_rule, is_top, p
 use Rattle.strategy_rules.proofs.Kept.{kept_le, kept_or}
 use Rattle.strategy_rules.proofs.Widths.{passing_count, in_nodes, width, one_fits, children_fit}
 use Rattle.strategy_rules.proofs.Planned.{candidates_kept, present_in, IsServed, known_present, lawful}
+use Rattle.tree.proofs.Members.{In}
 
 module _ (row : List Code) where
   leaf_unchanged : (u : ℕ) → IsLeaf u → is_changed row u ≡ false

@@ -4,8 +4,7 @@ use Rattle.std.proofs.Common.{arith}
 use Rattle.std.specs.List.{range_with_len}
 use Rattle.std.proofs.lemmas.Bool.{and_parts, and_from, leb-true}
 use Rattle.tree.specs.Tree.{IsLeaf, IsInner, IsWithin, IsBeneath, is_leaf, is_within, is_beneath, tree_nodes}
-use Rattle.tree.specs.Plans.{In}
-use Rattle.tree.proofs.Members.{in_counting, counting_in}
+use Rattle.tree.proofs.Members.{In, in_counting, counting_in}
 use Rattle.tree.proofs.Halvings.{leaf_is, leaf_from, within_from, beneath_is, beneath_from, beneath_within}
 use Rattle.strategy_rules.proofs.Kept.{kept_le, kept_lt}
 

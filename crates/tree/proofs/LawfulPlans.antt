@@ -5,8 +5,8 @@ use Rattle.tree.specs.declared.types.Opener.{Opener}
 use Rattle.tree.specs.declared.types.Pair.{Pair}
 use Rattle.tree.specs.Tree.{IsLeaf, IsBeneath}
 use Rattle.tree.specs.Rows.{is_changed, is_occupied}
-use Rattle.tree.specs.Plans.{pair, In, MayOpen, IsKnownAt, IsLawfulPlan}
-use Rattle.tree.proofs.Members.{in_contains, contains_in}
+use Rattle.tree.specs.Plans.{pair, MayOpen, IsKnownAt, IsLawfulPlan}
+use Rattle.tree.proofs.Members.{In, in_contains, contains_in}
 
 module _ {row : List Code} {plan : List Pair} (lawful : IsLawfulPlan row plan) where
   pub plan_content : (p : Pair) → In p plan → is_changed row p.content ≡ true

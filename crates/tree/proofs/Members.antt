@@ -4,7 +4,11 @@ use Rattle.std.proofs.Common.{subst, inl, inr, arith}
 use Rattle.std.specs.List.{range_with_len, flat_map, list_any}
 use Rattle.std.proofs.lemmas.Bool.{cases_eq, or_left, or_right, or_cases, false≢true}
 use Rattle.tree.specs.Tree.{countdown}
-use Rattle.tree.specs.Plans.{In}
+
+-- is x one of these? `Contains` by recursion, as proofs want it; the bridges are in_contains and contains_in
+abbrev pub In : {A : Type 0} → A → List A → Type 0
+In x [] = ⊥
+In x (y ∷ ys) = (x ≡ y) ⊎ In x ys
 
 module _ {A : Type 0} where
   pub in_contains : (xs : List A) (x : A) → In x xs → Contains xs x

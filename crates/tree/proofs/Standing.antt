@@ -4,14 +4,11 @@ use Rattle.std.proofs.Common.{inr, arith}
 use Rattle.std.specs.List.{range_with_len, list_any}
 use Rattle.std.proofs.lemmas.Bool.{and_from, and_parts, or_cases, or_left, or_right, not-true}
 use Rattle.tree.specs.declared.types.Code.{Code}
-use Rattle.tree.specs.declared.types.Mark.{Mark}
-use Rattle.tree.specs.declared.types.Mark.TheVariants.{Change, Presence, Stay, Departure}
 use Rattle.tree.specs.Tree.{IsWithin, IsLeaf, IsInner, is_within, is_inner, tree_leaves, inner_nodes, countdown}
 use Rattle.tree.specs.Rows.{code_at, is_change_code, is_occupied_after, is_stay_code, is_departure_code, stands_within, is_changed, is_occupied, former_serves}
-use Rattle.tree.specs.Rows.{changed_nodes, is_mark_of, stands_mark}
+use Rattle.tree.specs.Rows.{changed_nodes}
 use Rattle.tree.specs.Laws.{SomeBeneath}
-use Rattle.tree.specs.Plans.{In}
-use Rattle.tree.proofs.Members.{some_from, some_who, in_counting, counting_in, falling_in, in_kept, kept_in}
+use Rattle.tree.proofs.Members.{In, some_from, some_who, in_counting, counting_in, falling_in, in_kept, kept_in}
 use Rattle.tree.proofs.Halvings.{within_is, within_from, within_self, within_trans, within_cases, beneath_within, beneath_child, leaf_alone, inner_is}
 use Rattle.tree.proofs.Halvings.{inner_from, same_test}
 
@@ -160,11 +157,3 @@ module _ (row : List Code) where
   pub changed_all : changed_nodes_up_to 127 ≡ changed_nodes row
   unfolding changed_nodes_up_to changed_nodes inner_nodes
   changed_all = refl
-
--- a mark says whether a code that it looks for stands at the node or beneath it
-pub marked_is : (mark : Mark) (row : List Code) (n : ℕ) → stands_mark mark row n ≡ stands_within (is_mark_of mark) row n
-unfolding is_occupied
-marked_is Change row n = refl
-marked_is Presence row n = refl
-marked_is Stay row n = refl
-marked_is Departure row n = refl

@@ -1,5 +1,5 @@
 -- A plan is a list of pairs of an opener and a content, and what makes it lawful for a row.
-use Rattle.std.specs.Prelude.{◌≡◌, ℕ, ◌≤◌, IsTrue, IsFalse, ◌⊎◌, List, [], ◌∷◌, length, Contains}
+use Rattle.std.specs.Prelude.{◌≡◌, ℕ, ◌≤◌, IsTrue, IsFalse, ◌⊎◌, List, length, Contains}
 use Rattle.tree.specs.declared.limits.TheConstants.{CRADLES, MOST_PAIRS}
 use Rattle.tree.specs.declared.types.Code.{Code}
 use Rattle.tree.specs.declared.types.Code.TheVariants.{Stays}
@@ -13,11 +13,6 @@ use Rattle.tree.specs.Rows.{is_changed, is_occupied}
 -- the wrap to be made of the new key of n under the opener o
 abbrev pub pair : Opener → ℕ → Pair
 pair o n = record { opener = o; content = n }
-
--- `Contains xs x` by recursion, as proofs want it; the bridges are in_contains and contains_in
-abbrev pub In : {A : Type 0} → A → List A → Type 0
-In x [] = ⊥
-In x (y ∷ ys) = (x ≡ y) ⊎ In x ys
 
 -- what may open the content n: the key of an occupied node beneath it,
 -- or its own former key, if somebody stays beneath it and nobody departs
