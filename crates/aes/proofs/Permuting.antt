@@ -11,36 +11,44 @@ use Rattle.aes.specs.Cipher.{round_key, rounds, cipher, encrypt}
 use Rattle.aes.specs.Laws.{Permutes}
 use Rattle.aes.proofs.Undo.{decipher_cipher, cipher_decipher, cipher_sized, decipher_sized}
 
+-- a part of a string of bytes is one too
 part_bytes : (n at : ℕ) (w : List ℕ) → IsBytes w → IsBytes (part n at w)
 part_bytes n at w h = take_bytes n (drop at w) (drop_bytes at w h)
 
+-- of two strings of bytes, whichever is chosen is one
 cond_bytes : (b : Bool) (s t : List ℕ) → IsBytes s → IsBytes t → IsBytes (cond b s t)
 cond_bytes true s t h k = h
 cond_bytes false s t h k = k
 
+-- each round constant is a byte
 power_byte : (j : ℕ) → round_constant j < 256
 power_byte zero = lit< tt
 power_byte (suc zero) = lit< tt
 power_byte (suc (suc j)) = x_times_byte (round_constant (suc j)) (power_byte (suc j))
 
+-- ROTWORD keeps bytes
 rot_bytes : (a : List ℕ) → IsBytes a → IsBytes (rot_word a)
 rot_bytes a h = (at_byte a 1 h, (at_byte a 2 h, (at_byte a 3 h, (at_byte a 0 h, tt))))
 
+-- SUBWORD keeps bytes
 sub_bytes_lem : (a : List ℕ) → IsBytes a → IsBytes (sub_word a)
 sub_bytes_lem a h = (sub_sized (length a) a (refl, h)).1
 
+-- what is added to a word of the schedule, to make a later one, is of bytes
 temp_bytes : (nk i : ℕ) (a : List ℕ) → IsBytes a → IsBytes (temp nk i a)
 temp_bytes nk i a h =
     cond_bytes (eqb (i % nk) 0) (xors (sub_word (rot_word a)) (rcon (i / nk))) (cond (ltb 6 nk && eqb (i % nk) 4) (sub_word a) a)
     (xors_bytes (sub_word (rot_word a)) (rcon (i / nk)) (sub_bytes_lem (rot_word a) (rot_bytes a h)) (power_byte (i / nk), (lit< tt, (lit< tt, (lit< tt, tt)))))
     (cond_bytes (ltb 6 nk && eqb (i % nk) 4) (sub_word a) a (sub_bytes_lem a h) h)
 
+-- the next word of a schedule of bytes is of bytes
 next_bytes : (nk : ℕ) (w : List ℕ) (i : ℕ) → IsBytes w → IsBytes (next_word nk w i)
 unfolding next_word
 next_bytes nk w i h =
     xors_bytes (word w (i - nk)) (temp nk i (word w (i - 1))) (part_bytes 4 (4 * (i - nk)) w h)
     (temp_bytes nk i (word w (i - 1)) (part_bytes 4 (4 * (i - 1)) w h))
 
+-- a key of bytes is expanded to bytes
 expanded_bytes : (nk : ℕ) (key : List ℕ) (n : ℕ) → IsBytes key → IsBytes (expanded_key nk key n)
 unfolding expanded_key
 expanded_bytes nk key zero h = h
@@ -49,6 +57,7 @@ expanded_bytes nk key (suc n) h =
     let hw = expanded_bytes nk key n h in
     append_bytes w (next_word nk w (nk + n)) hw (next_bytes nk w (nk + n) hw)
 
+-- what AES makes of any string has 16 numbers
 pub encrypt_length : (key s : List ℕ) → length (encrypt key s) ≡ 16
 unfolding cipher
 encrypt_length key s =
@@ -56,6 +65,7 @@ encrypt_length key s =
     let w = key_expansion key in
     xors_length (shift_rows (sub_bytes (rounds w (nr - 1) s))) (round_key w nr) ∙ shift_length (sub_bytes (rounds w (nr - 1) s))
 
+-- under a key of bytes AES permutes the blocks
 pub permutes : (key : List ℕ) → IsBytes key → Permutes key
 unfolding key_expansion
 permutes key h =

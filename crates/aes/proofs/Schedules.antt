@@ -12,6 +12,7 @@ use Rattle.aes.proofs.Words.{part_front}
 
 -- Words of strings.
 
+-- a word that lies within a string has 4 bytes
 pub word_length : (w : List ℕ) (i : ℕ) → 4 * i + 4 ≤ length w → length (word w i) ≡ 4
 word_length w i h = length-take-le 4 (drop (4 * i) w) (omega (arith, length-drop (4 * i) w))
 
@@ -33,6 +34,7 @@ same_front w v (suc n) h =
     ∙ ap₂ ◌++◌ (same_front w v n (λ i l. h i (omega arith))) (h n (omega arith))
     ∙ sym (ap (λ k. take k v) more ∙ take-add (4 * n) 4 v)
 
+-- two strings of n words each are the same where their words are
 pub same_words : (w v : List ℕ) (n : ℕ) → length w ≡ 4 * n → length v ≡ 4 * n → ((i : ℕ) → i < n → word w i ≡ word v i) → w ≡ v
 same_words w v n lw lv h =
     sym (take_all (4 * n) w (omega arith)) ∙ same_front w v n h ∙ take_all (4 * n) v (omega arith)
@@ -60,10 +62,12 @@ module _ (nk : ℕ) (some : 1 ≤ nk) (key : List ℕ) where
       rule : (i : ℕ) → nk ≤ i → i ≤ n → xors (word w (i - nk)) (temp nk i (word w (i - 1))) ≡ xors (word v (i - nk)) (temp nk i (word v (i - 1)))
       rule i p l = ap₂ (λ a b. xors a (temp nk i b)) (sym (before (i - nk) (omega arith))) (sym (before (i - 1) (omega arith)))
 
+  -- the next word has 4 bytes
   next_length : (w : List ℕ) (n : ℕ) → nk ≤ n → length w ≡ 4 * n → length (next_word nk w n) ≡ 4
   unfolding next_word
   next_length w n past long = xors_length (word w (n - nk)) (temp nk n (word w (n - 1))) ∙ word_length w (n - nk) (omega (arith, long))
 
+  -- a key with n words more is so long, and its words are those of a schedule
   expanded_rules : length key ≡ 4 * nk → (n : ℕ) → (length (expanded_key nk key n) ≡ 4 * (nk + n)) × IsScheduleTo (nk + n) (expanded_key nk key n)
   unfolding expanded_key
   expanded_rules long zero = (omega (arith, long), record { key_words = λ i l. refl; later_words = λ i p l. absurd (omega arith) })
@@ -90,9 +94,11 @@ module _ (nk : ℕ) (some : 1 ≤ nk) (key : List ℕ) where
         ∙ sym (b.later_words i g l)
   ]
 
+  -- a string as long as a schedule, with the words of one, is one
   pub schedule_from : (w : List ℕ) → length w ≡ 16 * (nk + 7) → IsScheduleTo (4 * (nk + 7)) w → IsSchedule nk key w
   schedule_from w long r = record { size = long; key_words = r.key_words; later_words = r.later_words }
 
+  -- two schedules of one key are the same
   one_schedule : (w v : List ℕ) → IsSchedule nk key w → IsSchedule nk key v → w ≡ v
   one_schedule w v a b = same_words w v (4 * (nk + 7)) (omega (arith, a.size)) (omega (arith, b.size))
       (λ i l. one_by_rules (4 * (nk + 7)) w v (rules a) (rules b) i i (omega arith) l)
@@ -100,6 +106,7 @@ module _ (nk : ℕ) (some : 1 ≤ nk) (key : List ℕ) where
       rules : {s : List ℕ} → IsSchedule nk key s → IsScheduleTo (4 * (nk + 7)) s
       rules c = record { key_words = c.key_words; later_words = c.later_words }
 
+  -- the expansion of a key is a schedule of it, and there is no other
   pub has_one_schedule : length key ≡ 4 * nk → HasOneSchedule nk key
   unfolding key_expansion
   has_one_schedule long =

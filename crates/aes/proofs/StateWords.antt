@@ -22,6 +22,7 @@ module _ (share : ℕ → ℕ → ℕ) where
   abbrev mixed_column : ℕ → ℕ → ℕ → ℕ → List ℕ
   mixed_column = column_of (sum_of_shares share)
 
+  -- the bytes of the four columns of a state, each mixed, are those of the mixed state
   pub four_columns : (s a b c d : List ℕ) → length s ≡ 16
       → a ≡ mixed_column (get_or s 0 0) (get_or s 1 0) (get_or s 2 0) (get_or s 3 0)
       → b ≡ mixed_column (get_or s 4 0) (get_or s 5 0) (get_or s 6 0) (get_or s 7 0)

@@ -13,12 +13,14 @@ module _ (w : List ℕ) where
   keys_after : ℕ → ℕ → List (List ℕ)
   keys_after k n = first_chunks 16 n (drop (16 * suc k) w)
 
+  -- one key more is that of the next round, before those that follow it
   keys_more : (k n : ℕ) → keys_after k (suc n) ≡ round_key w (suc k) ∷ keys_after (suc k) n
   unfolding keys_after
   keys_more k n =
       let on : 16 * suc k + 16 ≡ 16 * suc (suc k) = omega arith in
       ap (λ (l : List ℕ). round_key w (suc k) ∷ first_chunks 16 n l) (drop-drop 16 (16 * suc k) w ∙ ap (λ (m : ℕ). drop m w) on)
 
+  -- n rounds more, by their keys, after the first k
   rounds_after : (n k : ℕ) (s : List ℕ) → fold round_of (rounds w k s) (keys_after k n) ≡ rounds w (k + n) s
   unfolding rounds keys_after
   rounds_after zero k s = let e : k ≡ k + 0 = omega arith in ap (λ (m : ℕ). rounds w m s) e
@@ -28,6 +30,7 @@ module _ (w : List ℕ) where
       ∙ rounds_after n (suc k) s
       ∙ ap (λ (m : ℕ). rounds w m s) e
 
+  -- n rounds back, by their keys from the last on, before the k that are left
   inv_rounds_after : (n k : ℕ) (s : List ℕ) → inv_rounds w k (fold inv_round s (reverse (keys_after k n))) ≡ inv_rounds w (k + n) s
   unfolding inv_rounds keys_after
   inv_rounds_after zero k s = let e : k ≡ k + 0 = omega arith in ap (λ (m : ℕ). inv_rounds w m s) e
@@ -40,6 +43,7 @@ module _ (w : List ℕ) where
       ∙ inv_rounds_after n (suc k) s
       ∙ ap (λ (m : ℕ). inv_rounds w m s) e
 
+  -- Cipher, with its middle rounds by their keys
   pub cipher_by : (nr : ℕ) (s : List ℕ)
       → last_round (fold round_of (xors s (round_key w 0)) (first_chunks 16 (nr - 1) (drop 16 w))) (round_key w nr) ≡ cipher nr w s
   unfolding cipher rounds keys_after
@@ -47,6 +51,7 @@ module _ (w : List ℕ) where
       let e : 0 + (nr - 1) ≡ nr - 1 = omega arith in
       ap (λ (t : List ℕ). last_round t (round_key w nr)) (rounds_after (nr - 1) 0 s ∙ ap (λ (m : ℕ). rounds w m s) e)
 
+  -- InvCipher, with its middle rounds by their keys from the last on
   pub inv_cipher_by : (nr : ℕ) (s : List ℕ)
       → inv_last_round (fold inv_round (xors s (round_key w nr)) (reverse (first_chunks 16 (nr - 1) (drop 16 w)))) (round_key w 0) ≡ inv_cipher nr w s
   unfolding inv_cipher inv_rounds keys_after

@@ -24,10 +24,12 @@ unfolding next_word
 next_front nk i w some past =
     ap₂ (λ a b. xors a (temp nk i b)) (part_front 4 (4 * (i - nk)) (4 * i) w (omega arith)) (part_front 4 (4 * (i - 1)) (4 * i) w (omega arith))
 
+-- the next word, behind a key with n words more, makes it one with n + 1 more
 expanded_more : (nk : ℕ) (key : List ℕ) (n : ℕ) → expanded_key nk key n ++ next_word nk (expanded_key nk key n) (nk + n) ≡ expanded_key nk key (n + 1)
 unfolding expanded_key
 expanded_more nk key n = rw add-one
 
+-- the first nk words, taken as a key, are that key with no word more
 pub expanded_none : (nk : ℕ) (w : List ℕ) → take (4 * nk) w ≡ expanded_key nk (take (4 * nk) w) (nk - nk)
 unfolding expanded_key
 expanded_none nk w = let none : nk - nk ≡ 0 = omega arith in rw none

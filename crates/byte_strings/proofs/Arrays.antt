@@ -8,6 +8,7 @@ use denote.Param.Members.{Mut}
 
 module _ {F B : Type 0} (g : Mut F (ℕ × Unit {0}) B) (h : ℕ → B) (f : F)
     (gives : (x : ℕ) (y : B) (q : F) → Called g f (x, tt) y q → (y ≡ h x) × (q ≡ f)) (ys : List B) where
+  -- the n elements from index i on are what h makes of their indices
   made_from : (n i : ℕ) → length ys ≡ i + n → IsFromFnResultFrom g f ys i n → drop i ys ≡ map h (range_with_len i n)
   made_from zero i long made = drop_all i ys (omega arith)
   made_from (suc n) i long (q, y, here, call, rest) =
@@ -23,6 +24,7 @@ module _ {F B : Type 0} (g : Mut F (ℕ × Unit {0}) B) (h : ℕ → B) (f : F)
 
 module _ {F A B : Type 0} (g : Mut F (A × Unit {0}) B) (h : A → B) (f : F)
     (gives : (x : A) (y : B) (q : F) → Called g f (x, tt) y q → (y ≡ h x) × (q ≡ f)) (ys : List B) where
+  -- the n elements from index i on are what h makes of those of the other array
   mapped_from : (xs : List A) (n i : ℕ) → length xs ≡ i + n → length ys ≡ i + n → MapsFrom g f xs ys i n → drop i ys ≡ map h (drop i xs)
   mapped_from xs zero i lx ly made = drop_all i ys (omega arith) ∙ sym (ap (map h) (drop_all i xs (omega arith)))
   mapped_from xs (suc n) i lx ly (q, x, y, from, here, call, rest) =

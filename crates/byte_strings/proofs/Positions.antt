@@ -5,6 +5,7 @@ use Rattle.std.proofs.lemmas.Bool.{ltb-false}
 use Rattle.std.proofs.lemmas.Option.{none-some}
 use Rattle.std.proofs.lemmas.List.Sums.{fails_before_first}
 
+-- where no position is found, the test fails at each place
 pub none_passes : {X : Type 0} (test : X → Bool) (xs : List X) (i : ℕ) (d : X) → position test xs ≡ None → i < length xs → test (get_or xs i d) ≡ false
 none_passes test xs i d e l = go (ltb (position_or_len test xs) (length xs)) refl e
   where

@@ -6,10 +6,12 @@ use borrow.Author.Tests.{eqb-false}
 use Rattle.std.specs.List.{fold, zip}
 use Rattle.byte_strings.specs.Strings.{is_same}
 
+-- where the conjunction is true, both sides are
 and_both : (a b : Bool) → a && b ≡ true → (a ≡ true) × (b ≡ true)
 and_both true b e = (refl, e)
 and_both false b e = let z : ◌≡◌ {A = ℕ} 0 1 = cc in absurd (omega arith)
 
+-- strings that compare as the same are the same
 pub same_lists : (xs ys : List ℕ) → is_same xs ys ≡ true → xs ≡ ys
 same_lists [] [] e = refl
 same_lists [] (y ∷ ys) e = let z : ◌≡◌ {A = ℕ} 0 1 = cc in absurd (omega arith)
@@ -18,10 +20,12 @@ same_lists (x ∷ xs) (y ∷ ys) e =
     let p = and_both (eqb x y) (is_same xs ys) e in
     ap₂ (λ (a : ℕ) (l : List ℕ). a ∷ l) (eqb-true x y p.0) (same_lists xs ys p.1)
 
+-- a string compares as the same as itself
 pub same_self : (s : List ℕ) → is_same s s ≡ true
 same_self [] = refl
 same_self (x ∷ s) = rw (eq-eqb x x refl) (same_self s)
 
+-- strings that are not the same compare as different
 pub unlike : (xs ys : List ℕ) → (xs ≡ ys → ⊥) → is_same xs ys ≡ false
 unlike xs ys n = go (is_same xs ys) refl
   where
@@ -31,12 +35,15 @@ unlike xs ys n = go (is_same xs ys) refl
 
 -- The bits in which pairs of bytes differ, gathered in one byte.
 
+-- a number other than 0 has a bit, which stays whatever bits are gathered to it
 nonzero : (d z : ℕ) → bit_or (suc d) z ≡ 0 → ⊥
 nonzero d z e = omega (arith, and_le_r (suc d) z, or_add_and (suc d) z)
 
+-- two numbers that differ in no bit are the same
 xor_same : (x y : ℕ) → bit_xor x y ≡ 0 → x ≡ y
 xor_same x y e = sym (xor_assoc x y y ∙ ap (bit_xor x) (xor_self y) ∙ xor_zero_r x) ∙ ap (λ (z : ℕ). bit_xor z y) e
 
+-- two numbers differ in no bit just where they are the same
 xor_test : (x y : ℕ) → eqb (bit_xor x y) 0 ≡ eqb x y
 xor_test x y = go (eqb x y) refl
   where
@@ -44,6 +51,7 @@ xor_test x y = go (eqb x y) refl
     go true e = eq-eqb (bit_xor x y) 0 (ap (λ (z : ℕ). bit_xor z y) (eqb-true x y e) ∙ xor_self y)
     go false e = ne_eqb (bit_xor x y) 0 (λ z. eqb-false x y e (xor_same x y z))
 
+-- with one pair more, no bits are gathered just where none were and the pair is the same
 gathered : (d x y : ℕ) → eqb (bit_or d (bit_xor x y)) 0 ≡ eqb d 0 && eqb x y
 gathered zero x y = xor_test x y
 gathered (suc d) x y =
@@ -64,5 +72,6 @@ gathered_all d (x ∷ a) (y ∷ b) h =
 pub same_gathered : (a b : List ℕ) (d : ℕ) → length a ≡ length b → d ≡ fold (λ bits p. bit_or bits (bit_xor p.0 p.1)) 0 (zip a b) → eqb d 0 ≡ is_same a b
 same_gathered a b d h e = ap (λ (n : ℕ). eqb n 0) e ∙ gathered_all 0 a b h
 
+-- strings of two lengths compare as different
 pub same_uneven : (a b : List ℕ) → (length a ≡ length b → ⊥) → false ≡ is_same a b
 same_uneven a b n = sym (unlike a b (λ e. n (ap length e)))

@@ -5,28 +5,34 @@ use lib.Bits.{bit_xor, xor_zero_r, xor_self, xor_assoc, xor_lt}
 use Rattle.byte_strings.specs.Strings.{IsBytes, IsSized, xors}
 use Rattle.byte_strings.proofs.Writes.{write_more, read_here}
 
+-- a number that is added twice is gone
 xor_undo : (x y : ℕ) → bit_xor (bit_xor x y) y ≡ x
 xor_undo x y = xor_assoc x y y ∙ ap (bit_xor x) (xor_self y) ∙ xor_zero_r x
 
+-- a string that is added twice is gone
 pub xors_xors : (s k : List ℕ) → xors (xors s k) k ≡ s
 xors_xors [] k = refl
 xors_xors (x ∷ xs) [] = refl
 xors_xors (x ∷ xs) (y ∷ ys) = ap₂ (λ (a : ℕ) (l : List ℕ). a ∷ l) (xor_undo x y) (xors_xors xs ys)
 
+-- adding the empty string changes nothing
 pub xors_nil : (s : List ℕ) → xors s [] ≡ s
 xors_nil [] = refl
 xors_nil (x ∷ xs) = refl
 
+-- a sum is as long as its first string
 pub xors_length : (s k : List ℕ) → length (xors s k) ≡ length s
 xors_length [] k = refl
 xors_length (x ∷ xs) [] = refl
 xors_length (x ∷ xs) (y ∷ ys) = ap suc (xors_length xs ys)
 
+-- the sum of two strings of bytes is one too
 pub xors_bytes : (s k : List ℕ) → IsBytes s → IsBytes k → IsBytes (xors s k)
 xors_bytes [] k hs hk = tt
 xors_bytes (x ∷ xs) [] hs hk = hs
 xors_bytes (x ∷ xs) (y ∷ ys) hs hk = (xor_lt 8 x y hs.0 hk.0, xors_bytes xs ys hs.1 hk.1)
 
+-- n bytes to which bytes are added are n bytes
 pub xors_sized : (n : ℕ) (s k : List ℕ) → IsSized n s → IsBytes k → IsSized n (xors s k)
 xors_sized n s k h hk = (xors_length s k ∙ h.0, xors_bytes s k h.1 hk)
 
@@ -41,6 +47,7 @@ xors_append (y ∷ t) (x ∷ a) b = ap (λ l. bit_xor y x ∷ l) (xors_append t 
 pub xors_front : List ℕ → List ℕ → ℕ → List ℕ
 xors_front s x i = xors (take i s) (take i x) ++ drop i s
 
+-- at first no place is done
 pub front_none : (s x : List ℕ) → s ≡ xors_front s x 0
 unfolding xors_front
 front_none s x = refl
@@ -53,12 +60,14 @@ xors_suc (x ∷ xs) [] i h k = absurd (omega arith)
 xors_suc (x ∷ xs) (y ∷ ys) zero h k = refl
 xors_suc (x ∷ xs) (y ∷ ys) (suc i) h k = ap (λ l. bit_xor x y ∷ l) (xors_suc xs ys i (omega arith) (omega arith))
 
+-- up to place i, the sum has i places
 front_length : (xs ys : List ℕ) (i : ℕ) → i ≤ length xs → length (xors (take i xs) (take i ys)) ≡ i
 front_length xs ys zero h = refl
 front_length [] ys (suc i) h = absurd (omega arith)
 front_length (x ∷ xs) [] (suc i) h = ap suc (sym (xors_length (take i xs) (take i [])) ∙ front_length xs [] i (omega arith))
 front_length (x ∷ xs) (y ∷ ys) (suc i) h = ap suc (front_length xs ys i (omega arith))
 
+-- one place more is done
 pub front_more : (s x out : List ℕ) (i : ℕ) → out ≡ xors_front s x i → i < length s → i < length x
     → set out i (bit_xor (get_or out i 0) (get_or x i 0)) ≡ xors_front s x (i + 1)
 unfolding xors_front

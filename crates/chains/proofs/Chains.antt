@@ -10,11 +10,13 @@ pub data IsReachedByLinks {Name : Type 0} (start : Name → Type 0) (link : Name
 -- with more names and more links, more is reached
 module _ {Name : Type 0} {start start′ : Name → Type 0} {link link′ : Name → Name → Type 0}
     (names : (n : Name) → start n → start′ n) (links : (m n : Name) → link m n → link′ m n) where
+  -- what is reached by the fewer is reached by the more
   pub followed_more : {n : Name} → IsReachedByLinks start link n → IsReachedByLinks start′ link′ n
   followed_more (given s) = given (names _ s)
   followed_more (opened l r) = opened (links _ _ l) (followed_more r)
 
 module _ {Name : Type 0} (start : Name → Type 0) (link : Name → Name → Type 0) where
+  -- each content of a chain is reached link by link
   content_followed : (hs : List (LinkNames Name)) → IsChain start link hs → (n : Name) → IsContentOf hs n → IsReachedByLinks start link n
   content_followed [] c n i = absurd i
   content_followed (h ∷ hs) c n (inl e) =
@@ -22,14 +24,17 @@ module _ {Name : Type 0} (start : Name → Type 0) (link : Name → Name → Typ
       (opened c.0 (elim c.1.0 [ inl s ↦ given s | inr i ↦ content_followed hs c.1.1 h.opener i ]))
   content_followed (h ∷ hs) c n (inr i) = content_followed hs c.1.1 n i
 
+  -- what a chain reaches is reached link by link
   pub followed : (n : Name) → IsReached start link n → IsReachedByLinks start link n
   followed n (inl s) = given s
   followed n (inr (h, (hs, (c, e)))) = content_followed (h ∷ hs) c n (inl e)
 
+  -- one link on from a name that a chain reaches, a chain reaches too
   pub link_reached : (m n : Name) → link m n → IsReached start link m → IsReached start link n
   link_reached m n l (inl s) = inr (record { opener = m; content = n }, ([], ((l, (inl s, tt)), refl)))
   link_reached m n l (inr (h, (hs, (c, e)))) = inr (record { opener = m; content = n }, (h ∷ hs, ((l, (inr (inl e), c)), refl)))
 
+  -- what is reached link by link is reached by a chain
   pub reached : {n : Name} → IsReachedByLinks start link n → IsReached start link n
   reached (given s) = inl s
   reached (opened {m} {n} l r) = link_reached m n l (reached r)
@@ -39,6 +44,7 @@ module _ {Name : Type 0} (start : Name → Type 0) (link : Name → Name → Typ
   closed P set on (given s) = set _ s
   closed P set on (opened l r) = on _ _ l (closed P set on r)
 
+-- what is reached is the set, closed under links, and nothing else
 pub reach_laws : (Name : Type 0) → ReachLaws Name
 reach_laws Name = record {
   start_reached = λ start link name s. inl s;

@@ -32,11 +32,13 @@ module _ (ring : List NodeKey) (leaf node : ℕ) where
   abbrev by_index : PlacedFound → OpenableWrap
   by_index it = record { wrap = it.0.index; entry = it.1 }
 
+  -- handed out or by its index, the same wrap comes first
   by_index_or_later : (p : PlacedWrap) (o : Option ℕ) (later : Option PlacedFound) →
       option_map by_index (placed_or_later p o later) ≡ wrap_or_later p.index o (option_map by_index later)
   by_index_or_later p (Some k) later = refl
   by_index_or_later p None later = refl
 
+  -- among the wraps from one place on, the search finds the same in the file as in what was parsed
   found_from : (L : ℕ) (bs : List ℕ) (at i k : ℕ) → at ≡ wrap_place L bs i →
       option_map by_index (openable_placed (placed_wraps_from L bs i k)) ≡ openable_wrap ring leaf node i (wraps_from L bs at k)
   found_from L bs at i zero e = refl
@@ -52,13 +54,16 @@ module _ (ring : List NodeKey) (leaf node : ℕ) where
     abbrev pub all_wraps : List PlacedWrap
     all_wraps = placed_wraps_from L bs 0 (wrap_count bs)
 
+    -- among all wraps of the file, the search finds the same as in what was parsed
     found_all : option_map by_index (openable_placed all_wraps) ≡ openable_wrap ring leaf node 0 (parsed_file L bs).wraps
     found_all = let start : 10 + byte_at bs 7 ≡ wrap_place L bs 0 = omega arith in found_from L bs (10 + byte_at bs 7) 0 (wrap_count bs) start
 
+    -- the wrap that is found in the file is the one that the player's search finds
     pub found_some : (w : FileWrap) (k : ℕ) → Some (placed_wrap_of w, k) ≡ openable_placed all_wraps →
         Some (openable_wrap_of (record { wrap = w; ring_entry = k })) ≡ openable_wrap ring leaf node 0 (parsed_file L bs).wraps
     found_some w k e = ap (option_map by_index) e ∙ found_all
 
+    -- if none is found in the file, the player's search finds none
     pub found_none : None ≡ openable_placed all_wraps → None ≡ openable_wrap ring leaf node 0 (parsed_file L bs).wraps
     found_none e = ap (option_map by_index) e ∙ found_all
 

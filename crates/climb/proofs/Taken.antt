@@ -30,6 +30,7 @@ wrap_stands L bs index h =
 abbrev verdict : Bool → Bool → Option (List ℕ) → Verdict (Unit {0})
 verdict short fits o = cond short (refusal 9 []) (cond (fits && is_some o) (Ok tt) (refusal 18 []))
 
+-- an opening with room enough gives the entry of the wrap's content, or the refusal
 opened : (epoch index : ℕ) (place : List ℕ) (t b : Bool) (o : Option (List ℕ)) (r : Result (Unit {0}) ReadFault) → t ≡ false →
     verdict_of read_refusal r ≡ verdict_of (refusal_with_epoch epoch) (verdict_of (refusal_with_index index) (verdict t b o)) →
     verdict_with {A = NodeKey} r (record { made = epoch; key = new_or_old {A = Unit {0}} (verdict t b o) (unwrap_or o place) place })

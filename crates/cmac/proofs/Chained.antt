@@ -12,6 +12,7 @@ module _ (e : List ℕ → List ℕ) where
   absorbed : List ℕ → List (List ℕ) → List ℕ
   absorbed = fold (λ x b. e (xors x b))
 
+  -- the chain is the last block, enciphered with X after the n blocks before it
   chain_folds : (n : ℕ) (x m : List ℕ) → e (xors (m_last e (drop (16 * n) m)) (absorbed x (first_chunks 16 n m))) ≡ chain e n x m
   unfolding chain absorbed
   chain_folds zero x m = refl

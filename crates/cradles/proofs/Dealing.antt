@@ -17,10 +17,12 @@ module _ (test : ℕ → Bool) where
   unfoldable pub keys_without_from : ℕ → List NodeKey → List NodeKey
   keys_without_from i nodes = keys_without (filter test (leaves_from i)) nodes
 
+  -- before the first leaf, all emptied leaves are left
   pub cleared_none : (nodes : List NodeKey) → keys_without_from 0 nodes ≡ keys_without (filter test tree_leaves) nodes
   unfolding keys_without_from leaves_from tree_leaves
   cleared_none nodes = refl
 
+  -- one leaf more: its key is cleared if it is emptied, and the later leaves are left
   pub cleared_next : (i : ℕ) (nodes : List NodeKey) → i < 128 →
       keys_without_from i nodes ≡ keys_without_from (i + 1) (cond (test (128 + i)) (set nodes (128 + i) unmade_key) nodes)
   unfolding keys_without_from
@@ -33,6 +35,7 @@ module _ (test : ℕ → Bool) where
       go true = refl
       go false = refl
 
+  -- after the last leaf no key is left to clear
   pub cleared_all : (i : ℕ) (nodes : List NodeKey) → 128 ≤ i → keys_without_from i nodes ≡ nodes
   unfolding keys_without_from
   cleared_all i nodes h = ap (λ us. keys_without (filter test us) nodes) (leaves_end i h)
@@ -42,10 +45,12 @@ module _ (epoch : ℕ) where
   unfoldable pub keys_with_draws_from : ℕ → List ℕ → List ℕ → List NodeKey → List NodeKey
   keys_with_draws_from i ns material nodes = keys_with_draws epoch (drop i ns) (drop (32 * i) material) nodes
 
+  -- before the first node, all are left to deal to
   pub deal_none : (ns material : List ℕ) (nodes : List NodeKey) → keys_with_draws_from 0 ns material nodes ≡ keys_with_draws epoch ns material nodes
   unfolding keys_with_draws_from
   deal_none ns material nodes = refl
 
+  -- one node more gets its key, and the later nodes are left
   pub deal_next : (i : ℕ) (ns material : List ℕ) (nodes : List NodeKey) → i < length ns →
       keys_with_draws_from i ns material nodes ≡ keys_with_draws_from (i + 1) ns material (set nodes (get_or ns i 0) (drawn_key epoch (drop (32 * i) material)))
   unfolding keys_with_draws_from
@@ -53,6 +58,7 @@ module _ (epoch : ℕ) where
       ap (λ l. keys_with_draws epoch l (drop (32 * i) material) nodes) (drop_more ns i 0 h)
       ∙ ap (λ m. keys_with_draws epoch (drop (i + 1) ns) m (set nodes (get_or ns i 0) (drawn_key epoch (drop (32 * i) material)))) (further material i)
 
+  -- after the last node there is nothing left to deal
   pub deal_all : (i : ℕ) (ns material : List ℕ) (nodes : List NodeKey) → length ns ≤ i →
       keys_with_draws_from i ns material nodes ≡ nodes
   unfolding keys_with_draws_from

@@ -8,15 +8,18 @@ use mathlib.Core.Bool.{Bool, true, false, cond}
 use Rattle.field.specs.Field.{x_times, bit_product, sum_of_bits, product, ColumnFunction}
 use Rattle.field.proofs.Tests.{stays}
 
+-- in a sum of two sums, the two terms in the middle change places
 medial : (p q r s : ℕ) → bit_xor (bit_xor p q) (bit_xor r s) ≡ bit_xor (bit_xor p r) (bit_xor q s)
 medial p q r s =
     xor_assoc p q (bit_xor r s)
     ∙ ap (bit_xor p) (sym (xor_assoc q r s) ∙ ap (λ (x : ℕ). bit_xor x s) (xor_comm q r) ∙ xor_assoc r q s)
     ∙ sym (xor_assoc p r (bit_xor q s))
 
+-- 2 or more is no bit
 not_bit : {n : ℕ} {A : Type 0} → suc (suc n) < 2 → A
 not_bit h = absurd (omega arith)
 
+-- k by the sum of two bits is the sum of k by each
 scaled_xor : (a b k : ℕ) → a < 2 → b < 2 → bit_product (bit_xor a b) k ≡ bit_xor (bit_product a k) (bit_product b k)
 scaled_xor zero b k ha hb = refl
 scaled_xor (suc zero) zero k ha hb = sym (xor_zero_r k)
@@ -24,6 +27,7 @@ scaled_xor (suc zero) (suc zero) k ha hb = sym (xor_self k)
 scaled_xor (suc zero) (suc (suc b)) k ha hb = not_bit hb
 scaled_xor (suc (suc a)) b k ha hb = not_bit ha
 
+-- what the bits of a sum choose is the sum of what the bits of each term choose
 sum_xor : (n k x y : ℕ) → sum_of_bits n k (bit_xor x y) ≡ bit_xor (sum_of_bits n k x) (sum_of_bits n k y)
 unfolding sum_of_bits
 sum_xor zero k x y = refl
@@ -32,13 +36,16 @@ sum_xor (suc n) k x y =
     ∙ ap₂ bit_xor (scaled_xor (x % 2) (y % 2) k (omega arith) (omega arith)) (sum_xor n (x_times k) (x / 2) (y / 2))
     ∙ medial (bit_product (x % 2) k) (bit_product (y % 2) k) (sum_of_bits n (x_times k) (x / 2)) (sum_of_bits n (x_times k) (y / 2))
 
+-- the product of a byte with a sum is the sum of the products
 pub product_xor : (k x y : ℕ) → product k (bit_xor x y) ≡ bit_xor (product k x) (product k y)
 unfolding product
 product_xor k x y = sum_xor 8 k x y
 
+-- the product of a byte by x is a byte
 pub x_times_byte : (b : ℕ) → b < 256 → x_times b < 256
 x_times_byte = stays x_times tt
 
+-- a byte by a bit is a byte
 scaled_byte : (a k : ℕ) → k < 256 → bit_product a k < 256
 scaled_byte a k h = go (eqb a 0)
   where
@@ -46,12 +53,14 @@ scaled_byte a k h = go (eqb a 0)
     go true = lit< tt
     go false = h
 
+-- what any bits choose of the multiples of a byte by powers of x is a byte
 sum_byte : (n k x : ℕ) → k < 256 → sum_of_bits n k x < 256
 unfolding sum_of_bits
 sum_byte zero k x h = lit< tt
 sum_byte (suc n) k x h =
     xor_lt 8 (bit_product (x % 2) k) (sum_of_bits n (x_times k) (x / 2)) (scaled_byte (x % 2) k h) (sum_byte n (x_times k) (x / 2) (x_times_byte k h))
 
+-- the product of a byte with any number is a byte
 pub product_byte : (k x : ℕ) → k < 256 → product k x < 256
 unfolding product
 product_byte k x h = sum_byte 8 k x h
@@ -88,13 +97,16 @@ multiple k f a b c d = product k (f a b c d)
 abbrev pub composition : ColumnFunction → ColumnFunction → ColumnFunction
 composition g f a b c d = g (f a b c d) (f b c d a) (f c d a b) (f d a b c)
 
+-- the sum of two linear functions is linear
 pub sum_linear : (f g : ColumnFunction) → IsLinear f → IsLinear g → IsLinear (sum f g)
 sum_linear f g lf lg a b c d a' b' c' d' =
     ap₂ bit_xor (lf a b c d a' b' c' d') (lg a b c d a' b' c' d') ∙ medial (f a b c d) (f a' b' c' d') (g a b c d) (g a' b' c' d')
 
+-- a multiple of a linear function is linear
 pub times_linear : (k : ℕ) (f : ColumnFunction) → IsLinear f → IsLinear (multiple k f)
 times_linear k f lf a b c d a' b' c' d' = ap (product k) (lf a b c d a' b' c' d') ∙ product_xor k (f a b c d) (f a' b' c' d')
 
+-- one linear function after another is linear
 pub after_linear : (g f : ColumnFunction) → IsLinear g → IsLinear f → IsLinear (composition g f)
 after_linear g f lg lf a b c d a' b' c' d' =
     (λ i. g (lf a b c d a' b' c' d' i) (lf b c d a b' c' d' a' i) (lf c d a b c' d' a' b' i) (lf d a b c d' a' b' c' i))

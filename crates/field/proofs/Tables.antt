@@ -17,12 +17,15 @@ use Rattle.field.proofs.Tests.{both_hold, both_left, both_right, holds_at_entrie
 abbrev pub holds_values : (ℕ → ℕ) → List ℕ → Bool
 holds_values f table = holds_at_entries (λ k x. eqb x (f k)) 0 table
 
+-- a table that passes the test has f of each place at that place
 entry : (f : ℕ → ℕ) (table : List ℕ) → T (holds_values f table) → (b : ℕ) → b < length table → get_or table b 0 ≡ f b
 entry f table t b h = eqb→eq (get_or table b 0) (f b) (holds_at_entry (λ k x. eqb x (f k)) table t b h)
 
+-- the table of SBOX, where it passes, has what SBOX makes of each byte
 pub s_box_entry : T (holds_values s_box SBOX) → (b : ℕ) → b < 256 → get_or SBOX b 0 ≡ s_box b
 s_box_entry = entry s_box SBOX
 
+-- the table of INVSBOX, where it passes, has what INVSBOX makes of each byte
 pub inv_s_box_entry : T (holds_values inv_s_box INV_SBOX) → (b : ℕ) → b < 256 → get_or INV_SBOX b 0 ≡ inv_s_box b
 inv_s_box_entry = entry inv_s_box INV_SBOX
 
@@ -42,6 +45,7 @@ holds_high share table = both_hold (holds_byte share 2 table) (holds_byte share 
 abbrev pub holds_shares : (ℕ → ℕ → ℕ) → List ℕ → Bool
 holds_shares share table = both_hold (holds_low share table) (holds_high share table)
 
+-- a table that passes the test has, as the bytes of each word, the shares of its place
 shares : (share : ℕ → ℕ → ℕ) (table : List ℕ) → T (holds_shares share table) → (b : ℕ) → b < length table
     → to_le_bytes w32 (get_or table b 0) ≡ shares_of share b
 shares share table t b h =
@@ -56,9 +60,11 @@ shares share table t b h =
     byte : (n : ℕ) → T (holds_byte share n table) → byte_at n (get_or table b 0) ≡ share n b
     byte n p = eqb→eq (byte_at n (get_or table b 0)) (share n b) (holds_at_entry (λ k x. eqb (byte_at n x) (share n k)) table p b h)
 
+-- the table of shares, where it passes, has those of what SBOX makes of each byte
 pub shares_entry : T (holds_shares (λ i b. mix_share i (s_box b)) SHARES) → (b : ℕ) → b < 256
     → to_le_bytes w32 (get_or SHARES b 0) ≡ shares_of (λ i b. mix_share i (s_box b)) b
 shares_entry = shares (λ i b. mix_share i (s_box b)) SHARES
 
+-- the table of inverse shares, where it passes, has those of each byte
 pub inv_shares_entry : T (holds_shares inv_mix_share INV_SHARES) → (b : ℕ) → b < 256 → to_le_bytes w32 (get_or INV_SHARES b 0) ≡ shares_of inv_mix_share b
 inv_shares_entry = shares inv_mix_share INV_SHARES

@@ -21,6 +21,7 @@ byte_xor (suc i) x y =
     subst (λ (p : ℕ). bit_xor x y / p % 256 ≡ bit_xor (x / p % 256) (y / p % 256)) (sym (bits_of (suc i)))
     (ap (λ (n : ℕ). n % 256) (xor_shr x y (8 * suc i)) ∙ xor_mod (x / 2 ^ (8 * suc i)) (y / 2 ^ (8 * suc i)) 8)
 
+-- the bytes of the sum of two words are the sums of their bytes
 xor_bytes : (x y a b c d e f g h : ℕ) → to_le_bytes w32 x ≡ a ∷ b ∷ c ∷ d ∷ [] → to_le_bytes w32 y ≡ e ∷ f ∷ g ∷ h ∷ []
     → to_le_bytes w32 (bit_xor x y) ≡ bit_xor a e ∷ bit_xor b f ∷ bit_xor c g ∷ bit_xor d h ∷ []
 xor_bytes x y a b c d e f g h p q = λ i. (byte_xor 0 x y ∙ at 0) i ∷ (byte_xor 1 x y ∙ at 1) i ∷ (byte_xor 2 x y ∙ at 2) i ∷ (byte_xor 3 x y ∙ at 3) i ∷ []
@@ -33,6 +34,7 @@ xor_bytes x y a b c d e f g h p q = λ i. (byte_xor 0 x y ∙ at 0) i ∷ (byte_
 turned_word : ℕ → ℕ
 turned_word n = n % 16777216 * 256 + n / 16777216
 
+-- it is a word of 32 bits again
 turn_small : (n : ℕ) → n < 4294967296 → turned_word n < 4294967296
 unfolding turned_word
 turn_small n h = omega arith
@@ -49,18 +51,21 @@ turn_bytes n a b c d h e =
     (λ i. q0 i ∷ q1 i ∷ q2 i ∷ q3 i ∷ [])
     ∙ ap (λ (l : List ℕ). get_or l 3 0 ∷ get_or l 0 0 ∷ get_or l 1 0 ∷ get_or l 2 0 ∷ []) e
 
+-- a turn by 8 bits is one such turn
 once : (n : ℕ) → n < 4294967296 → rotate_left w32 n 8 ≡ turned_word n
 unfolding turned_word
 once n h =
     let front : n * 256 % 4294967296 ≡ n % 16777216 * 256 = omega arith in
     ap (λ (m : ℕ). bit_or m (n / 16777216)) front ∙ or_shifted (n % 16777216) 8 (n / 16777216) (omega arith)
 
+-- a turn by 16 bits is two of them
 twice : (n : ℕ) → n < 4294967296 → rotate_left w32 n 16 ≡ turned_word (turned_word n)
 unfolding turned_word
 twice n h =
     let front : n * 65536 % 4294967296 ≡ n % 65536 * 65536 = omega arith in
     ap (λ (m : ℕ). bit_or m (n / 65536)) front ∙ or_shifted (n % 65536) 16 (n / 65536) (omega arith) ∙ omega arith
 
+-- a turn by 24 bits is three of them
 thrice : (n : ℕ) → n < 4294967296 → rotate_left w32 n 24 ≡ turned_word (turned_word (turned_word n))
 unfolding turned_word
 thrice n h =
@@ -77,6 +82,7 @@ module _ (share : ℕ → ℕ → ℕ) where
   abbrev HasShares : ℕ → ℕ → Type 0
   HasShares w b = to_le_bytes w32 w ≡ shares_of share b
 
+  -- the sum of four words of shares, turned, has the bytes of the mixed column
   pub mixed_word : (a b c d x y z w : ℕ) → y < 4294967296 → z < 4294967296 → w < 4294967296 → HasShares x a → HasShares y b → HasShares z c → HasShares w d
       → to_le_bytes w32 (bit_xor x (bit_xor (rotate_left w32 y 8) (bit_xor (rotate_left w32 z 16) (rotate_left w32 w 24))))
       ≡ column_of (sum_of_shares share) a b c d

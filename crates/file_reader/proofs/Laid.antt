@@ -16,6 +16,7 @@ pub record IsLaidOut (L : ℕ) (bs : List ℕ) : Type 0 where
   pub few_wraps : wrap_count bs ≤ 896
   pub size : file_size L (byte_at bs 7) (wrap_count bs) ≡ length bs
 
+-- a rekey file has numbers in these bounds, and the length that they give
 pub laid : (L : ℕ) (bs : List ℕ) → is_rekey_file L bs ≡ true → IsLaidOut L bs
 unfolding is_rekey_file
 laid L bs e =

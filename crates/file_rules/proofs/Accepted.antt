@@ -17,6 +17,7 @@ use Rattle.file_rules.proofs.Faultless.{faultless_head, faultless_node, wraps_pa
 use Rattle.file_rules.proofs.Falling.{falls_more}
 use Rattle.file_rules.proofs.Rewritten.{drop_byte, wraps_many, rewritten}
 
+-- changed nodes without fault fall, and end with 1
 nodes_fall : (bs : List ℕ) (at before left : ℕ) → 0 < left → fault_in bs (node_fields bs at before left) ≡ None → Falls before (take left (drop at bs))
 nodes_fall bs at before zero h e = absurd (omega arith)
 nodes_fall bs at before (suc zero) h e =
@@ -27,18 +28,22 @@ nodes_fall bs at before (suc (suc left)) h e =
     subst (λ (l : List ℕ). Falls before (take (suc (suc left)) l)) (sym (drop_byte bs at (at + 1) refl n.inside))
     (falls_more before (byte_at bs at) (take (suc left) (drop (at + 1) bs)) n.below (nodes_fall bs (at + 1) (byte_at bs at) (suc left) (omega arith) n.more))
 
+-- a node that passes as listed is one of the list
 pub listed_in : (nodes : List ℕ) (v : ℕ) → lists nodes v ≡ true → In v nodes
 listed_in nodes v e =
     let w = some_who (λ n. eqb n v) nodes e in subst (λ (n : ℕ). In n nodes) (eqb-true w.0 v w.1.1) w.1.0
 
 -- a wrap without fault
 module _ (L epoch : ℕ) (nodes bs : List ℕ) (hb : IsBytes bs) (at : ℕ) (e : fault_in bs (wrap_fields L epoch nodes bs at) ≡ None) where
+  -- its content is one of the changed nodes
   wrap_listed : lists nodes (byte_at bs (at + 5)) ≡ true
   wrap_listed = grind arith
 
+  -- its opener is its content or beneath it
   wrap_within : is_within (byte_at bs at) (byte_at bs (at + 5)) ≡ true
   wrap_within = grind arith
 
+  -- the wrap that is read there may stand in the file
   wrap_sound : IsSoundWrap L epoch nodes (wrap_at L bs at)
   wrap_sound = record {
     opener_range = (grind arith, grind arith);
@@ -50,6 +55,7 @@ module _ (L epoch : ℕ) (nodes bs : List ℕ) (hb : IsBytes bs) (at : ℕ) (e :
   }
 
 module _ (L epoch : ℕ) (nodes bs : List ℕ) (hb : IsBytes bs) where
+  -- each of some wraps without fault may stand in the file
   wraps_sound : (at k : ℕ) → fault_in bs (wraps_fields L epoch nodes bs at k) ≡ None → (w : WrappedKey) → In w (wraps_from L bs at k) →
       IsSoundWrap L epoch nodes w
   wraps_sound at zero e w i = absurd i
@@ -58,6 +64,7 @@ module _ (L epoch : ℕ) (nodes bs : List ℕ) (hb : IsBytes bs) where
       subst (λ (v : WrappedKey). IsSoundWrap L epoch nodes v) (sym q) here
   wraps_sound at (suc k) e w (inr i) = wraps_sound (at + (6 + L)) k (wraps_pass L epoch nodes bs at k e).1 w i
 
+-- bytes without fault are what a sound file of that kind is written as
 pub accepted_was_written : (kind L : ℕ) (bs : List ℕ) → 1 ≤ kind → IsBytes bs → layout_fault kind L bs ≡ None → WasWritten kind L bs
 accepted_was_written kind L bs some hb e =
     let a = none_both _ _ (sym (at_values kind L bs _ _ _ refl refl refl) ∙ e) in

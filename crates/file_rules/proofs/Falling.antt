@@ -8,33 +8,40 @@ use Rattle.file_rules.proofs.Passing.{AllPass}
 use Rattle.file_rules.proofs.Places.{at_first, further}
 use Rattle.tree.proofs.Members.{In}
 
+-- a list that falls still does with a greater node in front
 pub falls_more : (b n : ℕ) (ns : List ℕ) → n < b → Falls n ns → Falls b (n ∷ ns)
 falls_more b n [] h f = absurd f
 falls_more b n (m ∷ ns) h f = (h, f)
 
+-- there is one node at least, and there are fewer than the bound
 pub falls_few : (b : ℕ) (ns : List ℕ) → Falls b ns → (1 ≤ length ns) × (length ns < b)
 falls_few b [] f = absurd f
 falls_few b (n ∷ []) f = (omega arith, omega arith)
 falls_few b (n ∷ m ∷ ns) f = let r = falls_few n (m ∷ ns) f.1 in (omega arith, omega arith)
 
+-- the first of them is above 0 and below the bound
 pub falls_first : (b n : ℕ) (ns : List ℕ) → Falls b (n ∷ ns) → (0 < n) × (n < b)
 falls_first b n [] f = (omega arith, omega arith)
 falls_first b n (m ∷ ns) f = let r = falls_few n (m ∷ ns) f.1 in (omega arith, omega arith)
 
+-- none of them is 0
 pub falls_node : (b : ℕ) (ns : List ℕ) → Falls b ns → (x : ℕ) → In x ns → 0 < x
 falls_node b [] f x h = absurd f
 falls_node b (n ∷ ns) f x (inl e) = let r = falls_first b n ns f in omega arith
 falls_node b (n ∷ []) f x (inr h) = absurd h
 falls_node b (n ∷ m ∷ ns) f x (inr h) = falls_node n (m ∷ ns) f.1 x h
 
+-- each of them fits in a byte
 pub falls_bytes : (b : ℕ) (ns : List ℕ) → b ≤ 256 → Falls b ns → IsBytes ns
 falls_bytes b [] h f = tt
 falls_bytes b (n ∷ []) h f = (omega arith, tt)
 falls_bytes b (n ∷ m ∷ ns) h f = (omega arith, falls_bytes n (m ∷ ns) (omega arith) f.1)
 
+-- node 1 passes as the last one
 last_right : (before n : ℕ) → before ≤ 128 → (n < before) × (n ≡ 1) → is_valid_node before 0 n ≡ true
 last_right before n h f = grind arith
 
+-- a node below the one before it passes, where others follow
 next_right : (before left n : ℕ) → before ≤ 128 → (0 < n) × (n < before) → is_valid_node before (suc left) n ≡ true
 next_right before left n h f = grind arith
 

@@ -15,6 +15,7 @@ pub none_both : (a b : Option ℕ) → option_or a b ≡ None → (a ≡ None) �
 none_both None b e = (refl, e)
 none_both (Some p) b e = let z : ◌≡◌ {A = ℕ} 0 1 = cc in absurd (omega arith)
 
+-- where no place is given, there is no fault
 pub is_none : (o : Option ℕ) → not (is_some o) ≡ true → o ≡ None
 is_none None e = refl
 is_none (Some p) e = let z : ◌≡◌ {A = ℕ} 0 1 = grind arith in absurd (omega arith)

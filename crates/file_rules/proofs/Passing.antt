@@ -7,6 +7,7 @@ abbrev pub AllPass : ℕ → List FileField → Type 0
 AllPass len [] = Unit {0}
 AllPass len (f ∷ fs) = (f.at + f.size ≤ len) × ((f.right ≡ true) × AllPass len fs)
 
+-- fields that all pass have no fault
 pub pass_all : (len : ℕ) (fs : List FileField) → AllPass len fs → fault_place len fs ≡ None
 pass_all len [] p = refl
 pass_all len (f ∷ fs) (l, (r, more)) = let rest = pass_all len fs more in grind arith

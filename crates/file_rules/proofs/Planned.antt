@@ -35,6 +35,7 @@ falls_kept test b (suc (suc k)) l h e =
     go ns true f g = falls_more b (suc (suc k)) ns h f
     go ns false f g = g
 
+-- the changed nodes fall and end with node 1, where that one is changed
 changed_fall : (row : List Code) → is_changed row 1 ≡ true → Falls 128 (changed_nodes row)
 unfolding changed_nodes inner_nodes
 changed_fall row e = falls_kept (is_changed row) 128 127 (omega arith) (omega arith) e
@@ -80,6 +81,7 @@ module _ (L : ℕ) (seals : Sealing) (row : List Code) (epoch : ℕ) (former pre
         sealed_bytes = to _ _ _ (t.former_keys o h) (name_sized o n (former o).made epoch h k) (t.present_keys n k);
       }
 
+-- with keys that were made in time, the file of a lawful plan is sound
 pub plan_is_sound : (kind L : ℕ) (seals : Sealing) → (1 ≤ kind) × (kind ≤ 255) → SealsTo L seals →
     (row : List Code) (plan : List Pair) (epoch : ℕ) (former present : Keys) → is_changed row 1 ≡ true → IsLawfulPlan row plan →
     (1 ≤ epoch) × (epoch ≤ 1000000) → IsTimely row epoch former present → IsSoundFile L (rekey_of kind seals epoch (changed_nodes row) plan former present)

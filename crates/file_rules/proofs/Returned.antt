@@ -20,9 +20,11 @@ use Rattle.file_rules.proofs.Falling.{falls_few, falls_node, falls_bytes, falls_
 use Rattle.file_rules.proofs.Wraps.{in_range, wraps_back, wraps_long, bytes_of_wraps}
 
 module _ (L : ℕ) (f : Rekey) (s : IsSoundFile L f) where
+  -- each wrap of the file may stand in it
   each_sound : (w : WrappedKey) → In w f.wraps → IsSoundWrap L f.epoch f.nodes w
   each_sound w i = s.each_wrap w (in_contains f.wraps w i)
 
+  -- each number that is written is below 256
   all_bytes : IsBytes (file_bytes f)
   all_bytes =
       let many = falls_few 128 f.nodes s.nodes_fall in
@@ -33,28 +35,36 @@ module _ (L : ℕ) (f : Rekey) (s : IsSoundFile L f) where
       (append_bytes (nodes_bytes f.nodes) (wraps_bytes f.wraps) (omega arith, of_nodes)
       (append_bytes (be_bytes2 (length f.wraps)) (flat_map wrap_bytes f.wraps) (big2_bytes (length f.wraps)) of_wraps))
 
+  -- there are as many bytes as so many nodes and wraps need
   all_long : length (file_bytes f) ≡ file_size L (length f.nodes) (length f.wraps)
   all_long = omega (arith, length-append f.nodes (wraps_bytes f.wraps), wraps_long L f.wraps (λ w i. (each_sound w i).sealed_bytes.0))
 
   module _ (bs : List ℕ) (e : bs ≡ file_bytes f) where
+    -- the file's epoch is read
     epoch_there : be_number4 bs 3 ≡ f.epoch
     epoch_there = number4_at bs _ 3 (ap (drop 3) e) ∙ big4_back f.epoch (nodes_bytes f.nodes ++ wraps_bytes f.wraps) (omega (arith, s.epoch_range.1))
 
+    -- the number of the file's changed nodes is read
     count_there : byte_at bs 7 ≡ length f.nodes
     count_there = ap (λ (l : List ℕ). byte_at l 7) e
 
+    -- behind the changed nodes stands the section of the wraps
     after_nodes : drop (8 + length f.nodes) bs ≡ wraps_bytes f.wraps
     after_nodes = further bs _ 8 (ap (drop 8) e) (length f.nodes) ∙ drop_at f.nodes (wraps_bytes f.wraps) (length f.nodes) refl
 
+    -- the number of the file's wraps is read
     wraps_there : be_number2 bs (8 + length f.nodes) ≡ length f.wraps
     wraps_there = number2_at bs _ (8 + length f.nodes) after_nodes ∙ big2_back (length f.wraps) (flat_map wrap_bytes f.wraps) (omega (arith, s.few_wraps))
 
+    -- the file's changed nodes are read
     nodes_there : take (length f.nodes) (drop 8 bs) ≡ f.nodes
     nodes_there = ap (λ (l : List ℕ). take (length f.nodes) (drop 8 l)) e ∙ take_at f.nodes (wraps_bytes f.wraps) (length f.nodes) refl
 
+    -- the last wrap ends where the bytes do
     long : 10 + length f.nodes + length f.wraps * (6 + L) ≡ length bs
     long = sym (ap (λ (l : List ℕ). length l) e ∙ all_long)
 
+    -- the wraps pass, and the file's wraps are read
     wraps_read :
         AllPass (length bs) (wraps_fields L f.epoch f.nodes bs (10 + length f.nodes) (length f.wraps))
         × (wraps_from L bs (10 + length f.nodes) (length f.wraps) ≡ f.wraps)
@@ -63,6 +73,7 @@ module _ (L : ℕ) (f : Rekey) (s : IsSoundFile L f) where
         wraps_back L f.epoch f.nodes s.epoch_range.1 (falls_node 128 f.nodes s.nodes_fall) bs (10 + length f.nodes) f.wraps each_sound
         (ap (λ p. drop p bs) at ∙ further bs _ (8 + length f.nodes) after_nodes 2) long
 
+    -- the head passes
     head_passes : AllPass (length bs) (head_fields f.kind bs)
     head_passes =
         let few = falls_few 128 f.nodes s.nodes_fall in
@@ -74,6 +85,7 @@ module _ (L : ℕ) (f : Rekey) (s : IsSoundFile L f) where
         let nodes = ap (is_between 1 127) count_there ∙ in_range 1 127 (length f.nodes) few.0 (omega arith) in
         (omega arith, (first, (omega arith, (second, (omega arith, (kind, (omega arith, (epoch, (omega arith, (nodes, tt))))))))))
 
+    -- the whole file has no fault
     passes : layout_fault f.kind L bs ≡ None
     passes =
         let all = long in
@@ -88,6 +100,7 @@ module _ (L : ℕ) (f : Rekey) (s : IsSoundFile L f) where
         at_values f.kind L bs f.epoch (length f.nodes) (length f.wraps) epoch_there count_there wraps_there
         ∙ (λ i. option_or (head i) (option_or (nodes i) (option_or (count i) (wraps i))))
 
+    -- what is read is the file
     same : parsed_file L bs ≡ f
     same =
         let kind : byte_at bs 2 ≡ f.kind = ap (λ (l : List ℕ). byte_at l 2) e in
@@ -98,5 +111,6 @@ module _ (L : ℕ) (f : Rekey) (s : IsSoundFile L f) where
         ∙ wraps_read.1 in
         λ i. record { kind = kind i; epoch = epoch_there i; nodes = nodes i; wraps = wraps i }
 
+  -- a sound file comes back from its bytes
   pub returned : RoundTrips L f
   returned = record { bytes = all_bytes; size = all_long; accepts = passes (file_bytes f) refl; reads_back = same (file_bytes f) refl }

@@ -18,9 +18,11 @@ use Rattle.file_rules.specs.Laws.{IsSoundWrap}
 use Rattle.file_rules.proofs.Places.{at_first, at_place, further, number4_at, big4_back, big4_bytes}
 use Rattle.file_rules.proofs.Passing.{AllPass}
 
+-- a wrap has six bytes besides the sealed ones
 pub wrap_long : (w : WrappedKey) (L : ℕ) → length w.sealed_key ≡ L → length (wrap_bytes w) ≡ 6 + L
 wrap_long w L h = omega arith
 
+-- each node of the list passes as listed
 pub in_listed : (nodes : List ℕ) (v : ℕ) → In v nodes → lists nodes v ≡ true
 in_listed nodes v h = some_from (λ n. nat_eq n v) nodes v h (eq-eqb v v refl)
 
@@ -35,6 +37,7 @@ content_passes L epoch nodes w nodes_lem s =
     let own : not (w.opener.node == w.content) || nat_lt w.opener.epoch epoch ≡ true = grind arith in
     and_from _ _ (in_listed nodes w.content listed) (and_from _ _ under own)
 
+-- a value from low to high passes
 pub in_range : (low high v : ℕ) → low ≤ v → v ≤ high → is_between low high v ≡ true
 in_range low high v a b = grind arith
 
@@ -75,17 +78,20 @@ module _ (L epoch : ℕ) (nodes : List ℕ) (small : epoch ≤ 1000000) (nodes_l
       let more = wraps_back (at + (6 + L)) ws (λ v i. s v (inr i)) next long in
       (wrap_passes at w _ here there (omega arith) more.0, λ i. there i ∷ more.1 i)
 
+-- wraps with L sealed bytes have 6 + L bytes each
 pub wraps_long : (L : ℕ) (ws : List WrappedKey) → ((w : WrappedKey) → In w ws → length w.sealed_key ≡ L) → length (flat_map wrap_bytes ws) ≡ length ws * (6 + L)
 wraps_long L [] s = omega arith
 wraps_long L (w ∷ ws) s =
     length-append (wrap_bytes w) (flat_map wrap_bytes ws)
     ∙ omega (arith, wrap_long w L (s w (inl refl)), wraps_long L ws (λ v i. s v (inr i)), suc-mul (length ws) (6 + L))
 
+-- each of some bytes is below 256
 pub bytes_in : (ns : List ℕ) → IsBytes ns → (n : ℕ) → In n ns → n < 256
 bytes_in [] b n h = absurd h
 bytes_in (x ∷ ns) b n (inl e) = omega (arith, b.0)
 bytes_in (x ∷ ns) b n (inr h) = bytes_in ns b.1 n h
 
+-- all bytes of sound wraps are below 256
 pub bytes_of_wraps : (L epoch : ℕ) (nodes : List ℕ) → IsBytes nodes → (ws : List WrappedKey) →
     ((w : WrappedKey) → In w ws → IsSoundWrap L epoch nodes w) → IsBytes (flat_map wrap_bytes ws)
 bytes_of_wraps L epoch nodes b [] s = tt

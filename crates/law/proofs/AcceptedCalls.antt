@@ -71,6 +71,7 @@ module _ (s : State) (x c : ℕ) where
   abbrev pub admit_outcome : Bool → Bool → Option ℕ → Option ℕ → Verdict (Unit {0})
   admit_outcome a k h o = cond (not a) (refusal 1 []) (cond (not k) (refusal 2 []) (admit_free_verdict h o))
 
+  -- the answer of admit comes with what each of its checks found
   pub admit_case : AdmitCase s x c (admit_verdict s x c)
   admit_case = go (is_serial x) (is_cradle c) (held_cradle_index x s) (holder (cradle s c)) refl refl refl refl
     where
@@ -83,6 +84,7 @@ module _ (s : State) (x c : ℕ) where
       go true true None None p q e f = admitted p q e f
 
 module _ (P : Site → Type 0) (w : Site) (sound : IsSoundServer w.server) (keeps : Keeps P w) (old : P w) where
+  -- what each accepted call keeps holds after admit, whatever that answers
   after_admit : (x c : ℕ) → P (site_after w (admit x c))
   after_admit x c = go (admit_case w.server x c) refl
     where
@@ -93,6 +95,7 @@ module _ (P : Site → Type 0) (w : Site) (sound : IsSoundServer w.server) (keep
       go (cradle_held y p q f e) ok = old
       go (admitted p q f e) ok = keeps.admits x c ok p (in_range 1 128 c q) e
 
+  -- what each accepted call keeps holds after remove, whatever that answers
   after_remove : (x : ℕ) → P (site_after w (remove x))
   after_remove x = go (is_serial x) (seat_index x w.server) refl
     where
@@ -105,6 +108,7 @@ module _ (P : Site → Type 0) (w : Site) (sound : IsSoundServer w.server) (keep
       go true None e = old
       go true (Some i) e = seat i e (has_departure (cradle w.server (i + 1)))
 
+  -- what each accepted call keeps holds after any call that is given lawfully
   pub after_call : (c : Call) → IsGivenLawfully c → P (site_after w c)
   after_call (admit x c) given = after_admit x c
   after_call (remove x) given = after_remove x
@@ -118,6 +122,7 @@ module _ (P : Site → Type 0) (w : Site) (sound : IsSoundServer w.server) (keep
 
 -- every run leaves a sound server
 module _ (laws : StateLaws) where
+  -- after any calls the server is sound
   pub run_sound : (calls : List Call) → AllLawfullyGiven calls → IsSoundServer (server_of calls)
   run_sound [] given = laws.new_sound
   run_sound (c ∷ earlier) given = laws.after_sound (server_of earlier) c given.0 (run_sound earlier given.1)

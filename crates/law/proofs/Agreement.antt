@@ -56,12 +56,15 @@ seat_next b t i = elim (in_append (map (seat_from (b.epoch + 1)) b.arrivals) (fi
 ]
 
 module _ (before after : ℕ → Cradle) (b : Book) (old : Agrees before b) where
+  -- a seat of the book is that of its cradle as before, if the cradle did not change
   sits_still : (t : Seat) → Sits before b.departures t → after t.cradle ≡ before t.cradle → Sits after b.departures t
   sits_still t s e = record { cradled = s.cradled; sits = ap occupant e ∙ s.sits; same_departure = s.same_departure ∙ sym (ap has_departure e) }
 
+  -- an arrival of the book is noted as before, if its cradle did not change
   comes_still : (a : Arrival) → IsAwaited before a → after a.cradle ≡ before a.cradle → IsAwaited after a
   comes_still a s e = record { cradled = s.cradled; comes = ap noted_arrival e ∙ s.comes }
 
+  -- noting an arrival in a cradle that nobody holds keeps book and cradles in agreement
   pub admit_agrees : (x c : ℕ) → IsCradle c → holder (before c) ≡ None →
       ChangesOneCradle before after c (with_arrival (before c) x) → Agrees after (book_with_call b (admit x c))
   admit_agrees x c k e o = record { sit = sit; come = come }
@@ -86,6 +89,7 @@ module _ (before after : ℕ → Cradle) (b : Book) (old : Agrees before b) wher
         | inr n ↦ comes_still a s (o.elsewhere a.cradle s.cradled n)
       ]
 
+  -- noting a departure where the scanner sits keeps book and cradles in agreement
   pub remove_agrees : (x c : ℕ) → occupant (before c) ≡ Some x → ((d : ℕ) → IsCradle d → occupant (before d) ≡ Some x → d ≡ c) →
       ChangesOneCradle before after c (with_departure (before c)) → Agrees after (book_with_call b (remove x))
   remove_agrees x c e apart o = record { sit = sit; come = come }
@@ -119,6 +123,7 @@ module _ (before after : ℕ → Cradle) (b : Book) (old : Agrees before b) wher
         | inr n ↦ comes_still a s (o.elsewhere a.cradle s.cradled n)
       ]
 
+  -- clearing all notes keeps book and cradles in agreement
   pub drop_agrees : ((d : ℕ) → IsCradle d → after d ≡ without_notes (before d)) → Agrees after (book_with_call b drop_notes)
   drop_agrees each = record {
     sit = λ t i. let s = old.sit t i in record {
@@ -129,6 +134,7 @@ module _ (before after : ℕ → Cradle) (b : Book) (old : Agrees before b) wher
     come = λ a i. absurd i;
   }
 
+  -- carrying out all notes keeps book and cradles in agreement
   pub publish_agrees : ((d : ℕ) → IsCradle d → after d ≡ after_change (before d)) → Agrees after (book_of_next_epoch b)
   publish_agrees each = record { sit = λ t i. elim (seat_next b t i) [ inl r ↦ new t r.0 r.1.0 r.1.1 | inr r ↦ kept t r.0 r.1 ]; come = λ a i. absurd i }
     where
@@ -154,6 +160,7 @@ module _ (before after : ℕ → Cradle) (b : Book) (old : Agrees before b) wher
 -- the codes of the seats and the ended stays of the next epoch
 module _ (before : ℕ → Cradle) (b : Book) (old : Agrees before b) (row : List Code)
     (codes : (c : ℕ) → IsCradle c → code_at row (leaf_of c) ≡ cradle_code (before c)) where
+  -- each seat of the next epoch stays on or has just arrived, by the code of its cradle
   pub seats_next : (t : Seat) → In t (book_of_next_epoch b).seats → IsSeatAfter b.epoch b.seats row t
   seats_next t i = elim (seat_next b t i) [ inl r ↦ new t r.0 r.1.0 r.1.1 | inr r ↦ kept r.0 r.1 ]
     where
@@ -164,6 +171,7 @@ module _ (before : ℕ → Cradle) (b : Book) (old : Agrees before b) (row : Lis
       kept : In t b.seats → is_departing b t ≡ false → IsSeatAfter b.epoch b.seats row t
       kept j e = let s = old.sit t j in stays_on j (codes t.cradle s.cradled ∙ (Notes.stays_on (before t.cradle) t.serial s.sits (sym s.same_departure ∙ e)).1)
 
+  -- each ended stay of the next epoch has just departed or had ended before
   pub ended_next : (s : Stay) → In s (book_of_next_epoch b).ended → IsEndedAfter b.epoch b.seats b.ended row s
   ended_next s i = elim (in_append (map (stay_to b.epoch) (filter (is_departing b) b.seats)) b.ended s i) [
     | inl j ↦ let r = in_map (stay_to b.epoch) (filter (is_departing b) b.seats) s j in left s r.0 r.1.0 r.1.1

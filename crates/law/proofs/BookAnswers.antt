@@ -33,6 +33,7 @@ numbers_apart {A} m n other e = other (ap number e)
     number (Ok a) = 0
     number (Err f) = f.number
 
+-- an acceptance is no refusal
 ok_apart : (n : ℕ) {ns : List ℕ} → Ok tt ≡ refusal {A = Unit {0}} n ns → ⊥
 ok_apart n e = true≢false (ap is_err (sym e))
 
@@ -43,14 +44,17 @@ module _ (n : ℕ) (ns : List ℕ) where
   abbrev refusal_if : Bool → Verdict (Unit {0})
   refusal_if fails = cond fails (refusal n ns) (Ok tt)
 
+  -- if it refused with this number, it failed
   trip_of : (d : Bool) → refusal_if d ≡ refusal n ns → d ≡ true
   trip_of true e = refl
   trip_of false e = absurd (ok_apart n e)
 
+  -- if it passed, it did not fail
   free_of : (d : Bool) → refusal_if d ≡ Ok tt → d ≡ false
   free_of true e = absurd (ok_apart n (sym e))
   free_of false e = refl
 
+  -- it refuses with no other number
   no_other : (m : ℕ) {ms : List ℕ} → (n ≡ m → ⊥) → (d : Bool) → refusal_if d ≡ refusal m ms → ⊥
   no_other m other true e = numbers_apart n m other e
   no_other m other false e = ok_apart m e
@@ -68,6 +72,7 @@ module _ (w : Site) (sound : IsSoundServer w.server) (kept : IsSoundSite w) (wri
   listed : (x : ℕ) → IsDeparting b x → list_any (λ y. eqb y x) b.departures ≡ true
   listed x i = some_from (λ y. eqb y x) b.departures x (contains_in b.departures x i) (eq-eqb x x refl)
 
+  -- a serial in the list of departures departs in the book
   of_list : (x : ℕ) → list_any (λ y. eqb y x) b.departures ≡ true → IsDeparting b x
   of_list x e = let r = some_who (λ y. eqb y x) b.departures e in
       in_contains b.departures x (subst (λ (y : ℕ). In y b.departures) (eqb-true r.0 x r.1.1) r.1.0)
@@ -77,13 +82,16 @@ module _ (w : Site) (sound : IsSoundServer w.server) (kept : IsSoundSite w) (wri
   seat_there x c t = let a = kept.agrees.sit t.0 (contains_in b.seats t.0 t.1.0) in
       subst₂ (λ (y d : ℕ). IsCradle d × (occupant (cradle s d) ≡ Some y)) t.1.1.0 t.1.1.1 (a.cradled, a.sits)
 
+  -- a seat departs in the book exactly if a departure is noted in its cradle
   departs_there : (x c : ℕ) → IsSeated b x c → list_any (λ y. eqb y x) b.departures ≡ has_departure (cradle s c)
   departs_there x c t = let a = kept.agrees.sit t.0 (contains_in b.seats t.0 t.1.0) in
       subst₂ (λ (y d : ℕ). list_any (λ z. eqb z y) b.departures ≡ has_departure (cradle s d)) t.1.1.0 t.1.1.1 a.same_departure
 
+  -- who sits in the book has a valid serial
   serial_there : (x c : ℕ) → IsSeated b x c → is_serial x ≡ true
   serial_there x c t = subst (λ (y : ℕ). is_serial y ≡ true) t.1.1.0 (kept.serials.seats t.0 (contains_in b.seats t.0 t.1.0))
 
+  -- who arrives in the book is noted as arriving in that cradle
   arrival_there : (x c : ℕ) → IsArriving b x c → IsCradle c × (noted_arrival (cradle s c) ≡ Some x)
   arrival_there x c i = let a = kept.agrees.come (record { serial = x; cradle = c }) (arrival_in b x c i) in (a.cradled, a.comes)
 
@@ -91,12 +99,15 @@ module _ (w : Site) (sound : IsSoundServer w.server) (kept : IsSoundSite w) (wri
   seat_written : (c x : ℕ) → IsCradle c → occupant (cradle s c) ≡ Some x → IsSeated b x c
   seat_written c x k e = in_seat b x c (written.seat c x k e)
 
+  -- an arrival that is noted in a cradle stands in the book
   arrival_written : (c x : ℕ) → IsCradle c → noted_arrival (cradle s c) ≡ Some x → IsArriving b x c
   arrival_written c x k e = in_arrival b x c (written.arrival c x k e)
 
+  -- whose departure is noted in the book sits somewhere
   departing_written : (x : ℕ) → IsDeparting b x → HasSeat b x
   departing_written x i = let t = written.departing x (contains_in b.departures x i) in (t.0, in_seat b x t.0 t.1)
 
+  -- seats, arrivals and departures of the cradles are those of the book
   pub same_cradles : SameCradles w
   same_cradles = record {
     seats = λ x c. (λ h. seat_written c x h.0 h.1, seat_there x c);
@@ -116,6 +127,7 @@ module _ (w : Site) (sound : IsSoundServer w.server) (kept : IsSoundSite w) (wri
       (h.0, (Notes.stays_on (cradle s c) x h.1 on).0)
   holds_there x c (inr a) = let h = arrival_there x c a in (h.0, Notes.awaited_holds (cradle s c) x h.1)
 
+  -- who holds a cradle at the server holds it in the book
   holder_there : (x c : ℕ) → IsCradle c → holder (cradle s c) ≡ Some x → IsHolder b x c
   holder_there x c k e = elim (Notes.holder_from (cradle s c) x e) [
     | inl h ↦ let t = seat_written c x k h.0 in inl (t, λ d. true≢false (sym (listed x d) ∙ departs_there x c t ∙ h.1))
@@ -124,6 +136,7 @@ module _ (w : Site) (sound : IsSoundServer w.server) (kept : IsSoundSite w) (wri
 
   -- The search for a serial.
 
+  -- who holds no cradle in the book is not found
   out_none : (x : ℕ) → HoldsNoCradle b x → held_cradle_index x s ≡ None
   out_none x out = go (held_cradle_index x s) refl
     where
@@ -131,12 +144,15 @@ module _ (w : Site) (sound : IsSoundServer w.server) (kept : IsSoundSite w) (wri
       go None e = refl
       go (Some i) e = let h = found_at s sound.cradle_count holder x i e in absurd (out (i + 1) (holder_there x (i + 1) h.0 h.1))
 
+  -- who is not found holds no cradle in the book
   none_out : (x : ℕ) → held_cradle_index x s ≡ None → HoldsNoCradle b x
   none_out x e c h = let t = holds_there x c h in found_nowhere s sound.cradle_count holder x e c t.0 t.1
 
+  -- who holds a cradle in the book is found there
   held_there : (x c : ℕ) → IsHolder b x c → held_cradle_index x s ≡ Some (c - 1)
   held_there x c h = let t = holds_there x c h in found_there s sound.cradle_count holder x (λ d e. sound.holders_apart d e x) c t.0 t.1
 
+  -- nobody holds a cradle at the server that is free in the book
   free_none : (c : ℕ) → IsCradle c → IsFree b c → holder (cradle s c) ≡ None
   free_none c k free = go (holder (cradle s c)) refl
     where
@@ -144,12 +160,15 @@ module _ (w : Site) (sound : IsSoundServer w.server) (kept : IsSoundSite w) (wri
       go None e = refl
       go (Some x) e = absurd (free x (holder_there x c k e))
 
+  -- a cradle that nobody holds at the server is free in the book
   none_free : (c : ℕ) → holder (cradle s c) ≡ None → IsFree b c
   none_free c e x h = none-some x (sym e ∙ (holds_there x c h).1)
 
+  -- who sits in the book is found in that cradle
   sits_found : (x c : ℕ) → IsSeated b x c → seat_index x s ≡ Some (c - 1)
   sits_found x c t = let h = seat_there x c t in found_there s sound.cradle_count occupant x (λ d e. sound.seats_apart d e x) c h.0 h.1
 
+  -- who sits nowhere in the book is not found in any cradle
   nowhere_none : (x : ℕ) → (HasSeat b x → ⊥) → seat_index x s ≡ None
   nowhere_none x nowhere = go (seat_index x s) refl
     where
@@ -168,6 +187,7 @@ module _ (w : Site) (sound : IsSoundServer w.server) (kept : IsSoundSite w) (wri
       cradle_held : (y : ℕ) → IsSerial x → IsCradle c → HoldsNoCradle b x → IsHolder b y c → IsAdmitOutcome (refusal 4 (y ∷ []))
       accepted : IsSerial x → IsCradle c → HoldsNoCradle b x → IsFree b c → IsAdmitOutcome (Ok tt)
 
+    -- whatever admit answers, the book says why
     admitted_so : IsAdmitOutcome (admit_verdict s x c)
     admitted_so = go (admit_case s x c)
       where
@@ -180,26 +200,33 @@ module _ (w : Site) (sound : IsSoundServer w.server) (kept : IsSoundSite w) (wri
             cradle_held y (in_range 1 9999 x p) k (none_out x e) (holder_there y c k f)
         go (accepting.admitted p q e f) = accepted (in_range 1 9999 x p) (in_range 1 128 c q) (none_out x e) (none_free c f)
 
+    -- the answer of admit is the one that its four tests give
     is_admits : (a k : Bool) (h o : Option ℕ) → is_serial x ≡ a → is_cradle c ≡ k → held_cradle_index x s ≡ h → holder (cradle s c) ≡ o →
         admit_verdict s x c ≡ admit_outcome s x c a k h o
     is_admits a k h o p q e f = ap₂ (λ (m n : Bool). admit_outcome s x c m n (held_cradle_index x s) (holder (cradle s c))) p q
         ∙ ap₂ (λ (m n : Option ℕ). admit_outcome s x c a k m n) e f
 
+    -- refused with 1, it was given no serial
     no_serial_of : IsAdmitOutcome (refusal 1 []) → IsSerial x → ⊥
     no_serial_of (no_serial n) = n
 
+    -- refused with 2, it was given a serial, and no cradle
     no_cradle_of : IsAdmitOutcome (refusal 2 []) → IsSerial x × (IsCradle c → ⊥)
     no_cradle_of (no_cradle p n) = (p, n)
 
+    -- refused with 3, the scanner holds the cradle that the refusal names
     serial_held_of : (d : ℕ) → IsAdmitOutcome (refusal 3 (d ∷ [])) → IsSerial x × (IsCradle c × IsHolder b x d)
     serial_held_of d (serial_held _ p k h) = (p, (k, h))
 
+    -- refused with 4, the scanner that the refusal names holds the cradle
     cradle_held_of : (y : ℕ) → IsAdmitOutcome (refusal 4 (y ∷ [])) → IsSerial x × (IsCradle c × (HoldsNoCradle b x × IsHolder b y c))
     cradle_held_of y (cradle_held _ p k n h) = (p, (k, (n, h)))
 
+    -- accepted, serial and cradle are valid, the scanner holds none, and the cradle is free
     accepted_of : IsAdmitOutcome (Ok tt) → IsSerial x × (IsCradle c × (HoldsNoCradle b x × IsFree b c))
     accepted_of (accepted p k n f) = (p, (k, (n, f)))
 
+    -- each answer of admit means what the book says of scanner and cradle
     pub admit_answers : AdmitAnswers w x c
     admit_answers = record {
       no_serial = (λ e. no_serial_of (subst IsAdmitOutcome e admitted_so), λ n. is_admits false _ _ _ (not_range 1 9999 x n) refl refl refl);
@@ -232,6 +259,7 @@ module _ (w : Site) (sound : IsSoundServer w.server) (kept : IsSoundSite w) (wri
       nowhere : IsSerial x → (HasSeat b x → ⊥) → FindsSeat true None
       sits : (c : ℕ) → IsSeated b x (c + 1) → FindsSeat true (Some c)
 
+    -- the search finds what the book says of the serial
     looked : FindsSeat (is_serial x) (seat_index x s)
     looked = go (is_serial x) (seat_index x s) refl refl
       where
@@ -246,6 +274,7 @@ module _ (w : Site) (sound : IsSoundServer w.server) (kept : IsSoundSite w) (wri
     seat_verdict next a o = cond (not a) (refusal 1 []) (next o)
 
     module _ (next : Option ℕ → Verdict (Unit {0})) where
+      -- the verdict is the one that these results of test and search give
       is_looking : (a : Bool) (o : Option ℕ) → is_serial x ≡ a → seat_index x s ≡ o → seat_verdict next (is_serial x) (seat_index x s) ≡ seat_verdict next a o
       is_looking a o p e = ap₂ (seat_verdict next) p e
 
@@ -256,6 +285,7 @@ module _ (w : Site) (sound : IsSoundServer w.server) (kept : IsSoundSite w) (wri
       -- refused with 1 or 5, where what comes next is refused with 5 only there
       module _ (nowhere_is : next None ≡ refusal 5 []) (not_one : (i : ℕ) → next (Some i) ≡ refusal 1 [] → ⊥)
           (not_five : (i : ℕ) → next (Some i) ≡ refusal 5 [] → ⊥) where
+        -- it is refused with 1 exactly if it is given no serial
         no_serial_is : (seat_verdict next (is_serial x) (seat_index x s) ≡ refusal 1 []) ↔ (IsSerial x → ⊥)
         no_serial_is = (go (is_serial x) (seat_index x s) looked, λ n. is_looking false _ (not_range 1 9999 x n) refl)
           where
@@ -264,6 +294,7 @@ module _ (w : Site) (sound : IsSoundServer w.server) (kept : IsSoundSite w) (wri
             go true None (nowhere p n) e = absurd (numbers_apart 5 1 (omega arith) (sym nowhere_is ∙ e))
             go true (Some i) (sits _ t) e = absurd (not_one i e)
 
+        -- it is refused with 5 exactly if the scanner sits nowhere
         not_seated_is : (seat_verdict next (is_serial x) (seat_index x s) ≡ refusal 5 []) ↔ (IsSerial x × (HasSeat b x → ⊥))
         not_seated_is = (
           go (is_serial x) (seat_index x s) looked,
@@ -287,6 +318,7 @@ module _ (w : Site) (sound : IsSoundServer w.server) (kept : IsSoundSite w) (wri
 
     -- Remove.
 
+    -- each answer of remove means what the book says of the scanner
     pub remove_answers : RemoveAnswers w x
     remove_answers = record {
       no_serial = no_serial_is (remove_seat_verdict s) refl not_one not_five;
@@ -319,6 +351,7 @@ module _ (w : Site) (sound : IsSoundServer w.server) (kept : IsSoundSite w) (wri
 
     -- A card call.
 
+    -- each answer of a card call means what the book says of the scanner, and of the buffer's size
     pub card_answers : (buffer : List ℕ) → CardAnswers w x buffer
     card_answers buffer = record {
       no_serial = no_serial_is (card_seat_verdict buffer) refl not_one not_five;

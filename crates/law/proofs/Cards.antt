@@ -22,16 +22,20 @@ use Rattle.law.proofs.CradleSearches.{found_there}
 
 -- the cradle of a scanner is found
 module _ (s : State) (sound : IsSoundServer s) (c x : ℕ) (k : IsCradle c) (sits : occupant (cradle s c) ≡ Some x) where
+  -- the search finds the cradle in which the scanner sits
   seat_found : seat_index x s ≡ Some (c - 1)
   seat_found = found_there s sound.cradle_count occupant x (λ d e. sound.seats_apart d e x) c k sits
 
   module _ (buffer : List ℕ) (serial : is_serial x ≡ true) where
+    -- a card call for who is seated depends on the size of the buffer alone
     by_seat : card_verdict s x buffer ≡ cond (ltb (length buffer) 39) (refusal 12 (39 ∷ [])) (Ok tt)
     by_seat = ap (λ b. cond (not b) (refusal 1 []) (card_seat_verdict buffer (seat_index x s))) serial ∙ ap (card_seat_verdict buffer) seat_found
 
+    -- with room for a card the call is accepted
     pub card_accepted : 39 ≤ length buffer → card_verdict s x buffer ≡ Ok tt
     card_accepted room = by_seat ∙ ap (λ b. cond b (refusal 12 (39 ∷ [])) (Ok tt)) (le-ltb (length buffer) 39 room)
 
+    -- a call that is accepted was lent room for a card
     pub card_room : card_verdict s x buffer ≡ Ok tt → 39 ≤ length buffer
     card_room ok = elim (cases_lt (length buffer) 39) [
       | inl short ↦
@@ -41,6 +45,7 @@ module _ (s : State) (sound : IsSoundServer s) (c x : ℕ) (k : IsCradle c) (sit
       | inr room ↦ room
     ]
 
+    -- the card is written at the front, and the rest of the buffer stays
     pub card_written : 39 ≤ length buffer → buffer_after_card s x buffer ≡ card_bytes s x c ++ drop 39 buffer
     card_written room =
         let same : c - 1 + 1 ≡ c = omega arith in
@@ -54,16 +59,20 @@ module _ (t : Seat) (key : List ℕ) (serial : is_serial t.serial ≡ true) (k :
   abbrev card : List ℕ
   card = card_of t key
 
+  -- the card has 39 bytes
   long : length card ≡ 39
   long = omega (arith, size)
 
+  -- its first two bytes are the serial
   serial_there : be_number2 card 0 ≡ t.serial
   serial_there = big2_back t.serial (leaf_of t.cradle ∷ (be_bytes4 t.first ++ key))
       (omega (arith, leb-true t.serial 9999 (and_parts (leb 1 t.serial) (leb t.serial 9999) serial).1))
 
+  -- its four bytes from the fourth on are the first epoch of the seat
   epoch_there : be_number4 card 3 ≡ t.first
   epoch_there = number4_at card (be_bytes4 t.first ++ key) 3 refl ∙ big4_back t.first key (omega arith)
 
+  -- the card has no fault
   faultless_card : card_fault card ≡ None
   faultless_card =
       ap (λ n. cond (not (eqb n 39)) (Some (min n 39)) others) long
@@ -83,6 +92,7 @@ module _ (t : Seat) (key : List ℕ) (serial : is_serial t.serial ≡ true) (k :
       others : Option ℕ
       others = cond (not (is_between 1 9999 (be_number2 card 0))) (Some 0) rest
 
+  -- enrolling with the card is accepted, with the numbers of the seat
   pub card_enrols : enrol_verdict card ring ≡ Ok (player_numbers t.serial (leaf_of t.cradle) t.first)
   card_enrols =
       ap (λ n. cond (not (eqb n 288)) (refusal 14 []) (fault_or 13 (card_fault card) (Ok read))) room
@@ -92,6 +102,7 @@ module _ (t : Seat) (key : List ℕ) (serial : is_serial t.serial ≡ true) (k :
       read : PlayerNumbers
       read = player_numbers (be_number2 card 0) (leaf_of t.cradle) (be_number4 card 3)
 
+  -- enrolling enters the leaf's key into the ring, and clears the rest
   pub card_enters : ring_after_enrol card ring ≡ entry_bytes (record { made = t.first; key = key }) ++ replicate 252 0
   card_enters =
       ap (λ (v : Verdict PlayerNumbers). new_or_old v (part 36 3 card ++ replicate 252 0) ring) card_enrols

@@ -17,6 +17,7 @@ module _ (property : ℕ → ℕ → Bool) where
     pub arrivals : (a : Arrival) → In a b.arrivals → property a.serial a.cradle ≡ true
     pub ended : (s : Stay) → In s b.ended → property s.seat.serial s.seat.cradle ≡ true
 
+  -- it holds of the book of the next epoch too
   pub holds_next : (b : Book) → HoldsInBook b → HoldsInBook (book_of_next_epoch b)
   holds_next b old = record {
     seats = λ t i. elim (seat_next b t i) [ inl r ↦ rw r.1.1 (old.arrivals r.0 r.1.0) | inr r ↦ old.seats t r.0 ];
@@ -36,6 +37,7 @@ module _ (property : ℕ → ℕ → Bool) where
     ended = old.ended;
   }
 
+  -- it holds of a new book, which is empty
   pub holds_at_first : HoldsInBook new_book
   holds_at_first = record { seats = λ t i. absurd i; arrivals = λ a i. absurd i; ended = λ s i. absurd i }
 
@@ -44,6 +46,7 @@ module _ (property : ℕ → ℕ → Bool) (checked : AdmitChecks property) wher
   abbrev Holds : Book → Type 0
   Holds = HoldsInBook property
 
+  -- each accepted call keeps it, as admit checks it
   keeps : (w : Site) → Holds w.book → Keeps (λ v. Holds v.book) w
   keeps w old = record {
     admits = λ x c ok i k e. holds_admitted property w.book x c (checked w.server x c ok) old;
@@ -52,11 +55,13 @@ module _ (property : ℕ → ℕ → Bool) (checked : AdmitChecks property) wher
     publishes = λ p given ok. holds_next property w.book old;
   }
 
+  -- after any calls it holds of the book
   have_run : (calls : List Call) → AllLawfullyGiven calls → Holds (book_of calls)
   have_run [] given = holds_at_first property
   have_run (c ∷ earlier) given = after_call (λ v. Holds v.book) (site_of earlier) (run_sound state_laws earlier given.1)
       (keeps (site_of earlier) (have_run earlier given.1)) (have_run earlier given.1) c given.0
 
+  -- all stays and noted arrivals have the property, after any calls
   pub all_have : (calls : List Call) → AllLawfullyGiven calls → AllHave (site_of calls).book property
   all_have calls given = let h = have_run calls given in
       record {

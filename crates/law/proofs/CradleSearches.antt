@@ -21,9 +21,11 @@ module _ (s : State) (count : length s.cradles ≡ 128) (whose : Cradle → Opti
   abbrev is_match : Cradle → Bool
   is_match k = is_that_serial x (whose k)
 
+  -- a cradle that is the scanner's passes the test
   passes : (c : ℕ) → whose (cradle s c) ≡ Some x → is_match (cradle s c) ≡ true
   passes c e = ap (is_that_serial x) e ∙ eq-eqb x x refl
 
+  -- where the search finds a cradle, it is the scanner's
   pub found_at : (i : ℕ) → position is_match s.cradles ≡ Some i → IsCradle (i + 1) × (whose (cradle s (i + 1)) ≡ Some x)
   found_at i e =
       let found = position-Some is_match s.cradles i Empty e in
@@ -32,6 +34,7 @@ module _ (s : State) (count : length s.cradles ≡ 128) (whose : Cradle → Opti
         ap (λ n. whose (get_or s.cradles n Empty)) same ∙ it_is x (whose (get_or s.cradles i Empty)) found.1,
       )
 
+  -- if the search finds none, no cradle is the scanner's
   pub found_nowhere : position is_match s.cradles ≡ None → (c : ℕ) → IsCradle c → whose (cradle s c) ≡ Some x → ⊥
   found_nowhere e c k is = true≢false (sym (passes c is) ∙ none_passes is_match s.cradles (c - 1) Empty e (omega (arith, count)))
 

@@ -79,21 +79,27 @@ module _ (laws : StateLaws) (s : State) (p : Publishing) (given : IsGivenLawfull
   abbrev present : Keys
   present = keys_in (server_of_next_epoch s p.material).nodes
 
+  -- the bytes of the file are accepted, and read back as the file
   returns : RoundTrips p.wrap.length (publishing_file s p)
   returns = returned p.wrap.length (publishing_file s p) (laws.file_sound s p given sound ok)
 
+  -- the file has one wrap for each pair of the plan
   wrap_count : length (publishing_file s p).wraps ≡ length (publishing_plan s p)
   wrap_count = length-map (publishing_plan s p) (pair_wrap p.wrap.seals (s.epoch + 1) former present)
 
+  -- the file has as many bytes as its publishing counts
   size : length (file_bytes (publishing_file s p)) ≡ publishing_size s p
   size = returns.size ∙ ap (λ n. file_size p.wrap.length (length (changed_nodes (row s))) n) wrap_count
 
+  -- what is published is the bytes of the file, and nothing of the buffer behind them
   pub bytes_are : (new_edition s p).bytes ≡ file_bytes (publishing_file s p)
   bytes_are = take_at (file_bytes (publishing_file s p)) (drop (publishing_size s p) p.file) (publishing_size s p) size
 
+  -- what is published reads back as the file
   pub reads_back : edition_file (new_edition s p) ≡ publishing_file s p
   reads_back = ap (parsed_file p.wrap.length) bytes_are ∙ returns.reads_back
 
+  -- a reader accepts what is published, and it says what was reported
   pub readable : IsReadable (new_edition s p)
   readable = record {
     bytes = rw bytes_are returns.bytes;
@@ -107,6 +113,7 @@ module _ (laws : StateLaws) (s : State) (p : Publishing) (given : IsGivenLawfull
   abbrev wrap_of_pair : Pair → WrappedKey
   wrap_of_pair = pair_wrap p.wrap.seals (s.epoch + 1) former present
 
+  -- each pair of the plan gives a link from its opener's key to its content's new key
   pub link_new : (files : List Edition) (q : Pair) → In q (publishing_plan s p) →
       IsLink (new_edition s p ∷ files) (opener_name former present q.opener) (key_name q.content (s.epoch + 1))
   link_new files q i = record {
@@ -119,6 +126,7 @@ module _ (laws : StateLaws) (s : State) (p : Publishing) (given : IsGivenLawfull
     is_content = ap (λ (f : Rekey). key_name q.content f.epoch) reads_back;
   }
 
+  -- a link there was in the files before, or a pair of the plan gives it
   pub link_is : (files : List Edition) (m n : KeyName) → IsLink (new_edition s p ∷ files) m n →
       IsLink files m n ⊎ IsLinkOfPlan (s.epoch + 1) (publishing_plan s p) former present m n
   link_is files m n l = go (contains_in (new_edition s p ∷ files) l.file l.is_file)

@@ -32,10 +32,12 @@ use Rattle.law.proofs.AcceptedCalls.{run_sound}
 use Rattle.law.proofs.SoundSites.{IsSoundSite, run_kept, epochs_past}
 
 module _ (w : Site) (kept : IsSoundSite w) (serials : List ℕ) where
+  -- no stay ends before it began
   lasts : (s : Stay) → IsStayIn w.book s → s.seat.first ≤ s.last
   lasts s (inl i) = omega (arith, (kept.steady.seats_are s.seat i.0).began.1, i.1)
   lasts s (inr i) = (kept.steady.ended_are s i).began.1
 
+  -- a key that is reached link by link has one of their stays beneath its node, in its epoch
   holds : {n : KeyName} → IsReachedByLinks (IsLeafKeyOf w.book serials) (IsLink w.files) n → HasStayUnder w.book serials n
   holds {n} (given k) = record {
     stay = k.stay;
@@ -51,14 +53,17 @@ module _ (w : Site) (kept : IsSoundSite w) (serials : List ℕ) where
       let s = link.right h.stay (stay_in w.book h.stay h.is_stay) h.beneath h.covers in
       record { stay = h.stay; is_stay = h.is_stay; is_theirs = h.is_theirs; is_node = link.content_node; beneath = s.0; covers = s.1 }
 
+  -- a key that is reached has one of their stays beneath its node, in its epoch
   by_stays : (name : KeyName) → IsReached (IsLeafKeyOf w.book serials) (IsLink w.files) name → HasStayUnder w.book serials name
   by_stays name r = holds (followed (IsLeafKeyOf w.book serials) (IsLink w.files) name r)
 
+  -- they reach the group key only of an epoch in which one of them was a member
   only_members : (e : ℕ) → IsReached (IsLeafKeyOf w.book serials) (IsLink w.files) (key_name 1 e) → SomeIsMember w.book serials e
   only_members e r =
       let h = by_stays (key_name 1 e) r in
       (h.stay.seat.serial, (h.is_theirs, record { stay = h.stay; is_stay = h.is_stay; has_serial = refl; covers = h.covers }))
 
+  -- they reach the group key of each epoch in which one of them was a member
   all_members : (e : ℕ) → SomeIsMember w.book serials e → IsReached (IsLeafKeyOf w.book serials) (IsLink w.files) (key_name 1 e)
   all_members e (x, (i, m)) =
       reached (IsLeafKeyOf w.book serials) (IsLink w.files)
@@ -73,6 +78,7 @@ module _ (calls : List Call) (sound : IsSoundServer (site_of calls).server) (kep
   abbrev w : Site
   w = site_of calls
 
+  -- the published epochs are those from 1 to the book's
   published_epochs : (e : ℕ) → IsPublishedEpoch w e ↔ ((1 ≤ e) × (e ≤ w.book.epoch))
   published_epochs e = (to, from)
     where
@@ -85,6 +91,7 @@ module _ (calls : List Call) (sound : IsSoundServer (site_of calls).server) (kep
           let r = in_map (λ x. x.notice.epoch) w.files e (subst (λ (l : List ℕ). In e l) (sym kept.in_order) (falling_in w.book.epoch e low high)) in
           record { file = r.0; is_file = in_contains w.files r.0 r.1.0; is_epoch = sym r.1.1 }
 
+  -- who was a member in an epoch holds its group key, with a given card and the files
   members_hold : MembersHold calls
   members_hold stay e is_stay covers card handed_out =
       let p = plays.plays stay (stay_in w.book stay is_stay) in
@@ -101,6 +108,7 @@ module _ (calls : List Call) (sound : IsSoundServer (site_of calls).server) (kep
       let r = some_course card ring s e files in
       (_, (_, (_, handed x (replicate 512 0) (lit≤ tt) r.1.1.1)))
 
+  -- who was given a card can be handed the files, and accepts all of them
   courses_exist : CoursesExist calls
   courses_exist stay e is_stay covers card handed_out ring room =
       let m = members_hold stay e is_stay covers card handed_out in
@@ -108,6 +116,7 @@ module _ (calls : List Call) (sound : IsSoundServer (site_of calls).server) (kep
       let ok : r.0 ≡ true = (m.1 r.0 r.1.0 r.1.1.0 r.1.1.1).accepted_all in
       (r.1.0, (r.1.1.0, subst (λ (a : Bool). Course card (files_from_to stay.seat.first e w.files) a r.1.0 r.1.1.0) ok r.1.1.1))
 
+  -- who is seated is given its present card
   cards : (t : Seat) → Contains w.book.seats t → (buffer : List ℕ) → 39 ≤ length buffer →
       (card_verdict w.server t.serial buffer ≡ Ok tt) × (buffer_after_card w.server t.serial buffer ≡ present_card calls t ++ drop 39 buffer)
   cards t i buffer room =
@@ -120,6 +129,7 @@ module _ (calls : List Call) (sound : IsSoundServer (site_of calls).server) (kep
             (kept.steady.seats_are t j).since,
       )
 
+  -- that card then counts as given
   cards_given : (t : Seat) → Contains w.book.seats t → (buffer : List ℕ) → 39 ≤ length buffer →
       IsGivenCard (calling.card t.serial buffer ∷ calls) t (present_card calls t)
   cards_given t i buffer room =
@@ -134,9 +144,11 @@ module _ (calls : List Call) (sound : IsSoundServer (site_of calls).server) (kep
         was_written = sym (ap (take 39) c.1 ∙ take_at (present_card calls t) (drop 39 buffer) 39 (omega (arith, (sound.keys_sized (leaf_at t)).0)));
       }
 
+  -- what the server's cradles say stands in the book
   written : IsSiteRecorded w
   written = run_written state_laws calls given_all
 
+  -- the whole law holds after these calls
   group_keys : LawHoldsAfter calls
   group_keys = record {
     reached_by_members = λ serials e. (only_members w kept serials e, all_members w kept serials e);
@@ -161,6 +173,7 @@ module _ (calls : List Call) (sound : IsSoundServer (site_of calls).server) (kep
     sound = sound;
   }
 
+-- after any calls that are given lawfully the law holds
 pub every_run : (calls : List Call) → AllLawfullyGiven calls → LawHoldsAfter calls
 every_run calls lawful =
     group_keys calls (run_sound state_laws calls lawful) (run_kept state_laws calls lawful) (playing state_laws player_laws calls lawful) lawful

@@ -76,12 +76,15 @@ module _ (laws : StateLaws) (players : PlayerLaws) (w : Site) (sound : IsSoundSe
   abbrev x : Edition
   x = new_edition s p
 
+  -- what the publishing makes of the keys
   change : IsRenewal (s.epoch + 1) (row s) p.material former present
   change = laws.renewal s p.material sound
 
+  -- the files before it are of earlier epochs
   past : (y : Edition) → In y w.files → y.notice.epoch ≤ s.epoch
   past y i = let h = epochs_past w.files b.epoch kept.in_order y i in omega (arith, h.1, kept.same_epoch)
 
+  -- the publishing is lawful, and passes the checks before its plan
   planned : IsPlannedPublishing s p
   planned = record { given = given; sound = sound; passes = ok }
 
@@ -116,6 +119,7 @@ module _ (laws : StateLaws) (players : PlayerLaws) (w : Site) (sound : IsSoundSe
         (is_player_refused (read_of x work) q ring ≡ false)
         × ((player_after (read_of x work) q ring ≡ here) × (ring_after (read_of x work) q ring ≡ new_ring))
 
+    -- a player that reads the new file is up to date after it
     there : (all : Bool) (q r : Player) (ring work : List ℕ) → all ≡ true → q ≡ r → Reads r ring work → IsUpToDateAfter all q ring work
     there all q r ring work a e h = (
       and_from all (not (is_player_refused (read_of x work) q ring)) a
@@ -134,6 +138,7 @@ module _ (laws : StateLaws) (players : PlayerLaws) (w : Site) (sound : IsSoundSe
 
     -- so it is where the server is
     module _ (key : List ℕ) (low : t.first ≤ s.epoch + 1) (does : CatchesUp key) where
+      -- after all files with the new one, it is where the server is
       plays_on : (all : Bool) (q : Player) (ring : List ℕ) → Course (card_of t key) (files_from_to t.first (s.epoch + 1) (x ∷ w.files)) all q ring →
           IsUpToDate all q ring
       plays_on all q ring c =
@@ -142,14 +147,17 @@ module _ (laws : StateLaws) (players : PlayerLaws) (w : Site) (sound : IsSoundSe
 
     -- who stays
     module _ (i : In t b.seats) (code_is : code_at (row s) (leaf_at t) ≡ Stays) (key : List ℕ) (old : SeatPlays s.epoch former w.files t key) where
+      -- its cradle's leaf is a leaf
       stays_leaf : IsLeaf (leaf_at t)
       stays_leaf = cradled_leaf t.cradle (kept.steady.seats_are t i).cradled
 
+      -- the key of its leaf stays the same
       leaf_kept : present (leaf_at t) ≡ former (leaf_at t)
       leaf_kept = change.others_kept (leaf_at t)
           (false_from_ne_true (is_changed (row s) (leaf_at t)) (λ y. omega (arith, (changed_inner (row s) (leaf_at t) y).1, stays_leaf.0)))
           (λ l. (ap has_arrival code_is, ap is_emptied code_is))
 
+      -- handed the new file, it catches up
       stays_does : CatchesUp key
       stays_does all q ring work room c =
           let h = old.plays all q ring c in
@@ -158,6 +166,7 @@ module _ (laws : StateLaws) (players : PlayerLaws) (w : Site) (sound : IsSoundSe
           there all q (seated me) ring work h.0 h.1.is_seated
           (seated_reads me (s.epoch + 1) p.wrap x.bytes work ring (path_entries present (leaf_at t)) (reading_now (leaf_at t) work ring r room) refl)
 
+      -- who stays plays on in the new epoch, with the same key on its card
       staying : SeatPlays (s.epoch + 1) present (x ∷ w.files) t key
       staying = record {
         is_key = old.is_key ∙ ap (λ (k : NodeKey). k.key) (sym leaf_kept);
@@ -171,10 +180,12 @@ module _ (laws : StateLaws) (players : PlayerLaws) (w : Site) (sound : IsSoundSe
       abbrev new_key : List ℕ
       new_key = (present (leaf_at t)).key
 
+      -- enrolling with its card is accepted, with the numbers of the seat
       enrols : (ring : List ℕ) → length ring ≡ 288 → enrol_verdict (card_of t new_key) ring ≡ Ok (player_numbers t.serial (leaf_at t) t.first)
       enrols ring room = card_enrols t new_key (next.serials.seats t i) cradled (omega arith) (omega (arith, since.epoch_range))
           (since.keys_sized (leaf_at t)).0 ring room
 
+      -- just enrolled, it catches up with the new file
       arrives_does : CatchesUp new_key
       arrives_does all q ring work room c =
           after_none players (card_of t new_key) (λ a u v. IsUpToDateAfter a u v work)
@@ -199,6 +210,7 @@ module _ (laws : StateLaws) (players : PlayerLaws) (w : Site) (sound : IsSoundSe
               there true (waiting c) (waiting me) mine work refl (ap waiting is)
               (waiting_reads me (s.epoch + 1) p.wrap x.bytes work mine (path_entries present (leaf_at t)) (reading_now (leaf_at t) work mine r room) first)
 
+      -- who arrives plays from the new epoch on, with the new key of its leaf
       arriving : SeatPlays (s.epoch + 1) present (x ∷ w.files) t new_key
       arriving = record { is_key = refl; plays = plays_on new_key (omega arith) arrives_does }
 
@@ -215,10 +227,12 @@ module _ (laws : StateLaws) (players : PlayerLaws) (w : Site) (sound : IsSoundSe
               ∙ ap Ok (sym (next.newest x (inl refl) refl));
         }
 
+    -- it holds the group key of any epoch that is the new one
     newest_at : IsLeaf (leaf_at t) → (key : List ℕ) → SeatPlays (s.epoch + 1) present (x ∷ w.files) t key → (e : ℕ) → e ≡ s.epoch + 1 →
         HoldsKeyAt (x ∷ w.files) t key e
     newest_at leaf key plays e now = subst (HoldsKeyAt (x ∷ w.files) t key) (sym now) (newest leaf key plays)
 
+    -- the group key of an earlier epoch is held as before
     older : (key : List ℕ) (e : ℕ) → e ≤ s.epoch → HoldsKeyAt w.files t key e → HoldsKeyAt (x ∷ w.files) t key e
     older key e l old all q ring c =
         let h = old all q ring (subst (λ (l : List Edition). Course (card_of t key) l all q ring) (from_to_past w.files s.epoch past x refl t.first e l) c) in
@@ -247,6 +261,7 @@ module _ (laws : StateLaws) (players : PlayerLaws) (w : Site) (sound : IsSoundSe
       as_seat = λ j. absurd (ended_not_seat (site_of_next_epoch w p) next u i j);
     }
 
+    -- the player of a seat that stays does what it should
     stays_next : (u : Stay) → u.last ≡ b.epoch + 1 → In u.seat b.seats → code_at (row s) (leaf_at u.seat) ≡ Stays → StayPlaysNext u
     stays_next u l i code_is =
         let old = plays (stay_to b.epoch u.seat) (inl (i, refl)) in
@@ -262,6 +277,7 @@ module _ (laws : StateLaws) (players : PlayerLaws) (w : Site) (sound : IsSoundSe
           as_seat = λ j. on;
         }
 
+    -- the player of a seat that just arrived does what it should
     arrives_next : (u : Stay) → u.last ≡ b.epoch + 1 → In u.seat (book_of_next_epoch b).seats → IsCradle u.seat.cradle → u.seat.first ≡ b.epoch + 1 →
         has_arrival (code_at (row s) (leaf_at u.seat)) ≡ true → StayPlaysNext u
     arrives_next u l i cradled first joined =
@@ -276,6 +292,7 @@ module _ (laws : StateLaws) (players : PlayerLaws) (w : Site) (sound : IsSoundSe
           as_seat = λ j. on;
         }
 
+    -- the player of every stay does what it should in the next epoch
     pub plays_next : (u : Stay) → IsStayIn (book_of_next_epoch b) u → StayPlaysNext u
     plays_next u (inl (i, l)) = elim (seats_next (cradle s) b kept.agrees (row s) (λ c k. laws.code_at_leaf s c sound k) u.seat i) [
       | stays_on h code_is ↦ stays_next u l h code_is

@@ -56,6 +56,7 @@ pub record IsChange (epoch : ℕ) (row : List Code) (plan : List Pair) (material
 
 -- Codes apart.
 
+-- who departs moves
 departs_moves : (c : Code) → is_departure_code c ≡ true → is_change_code c ≡ false → ⊥
 departs_moves Empty d m = absurd (true≢false (sym d))
 departs_moves Stays d m = absurd (true≢false (sym d))
@@ -63,6 +64,7 @@ departs_moves Arrives d m = absurd (true≢false (sym d))
 departs_moves Departs d m = absurd (true≢false m)
 departs_moves Swaps d m = absurd (true≢false m)
 
+-- who arrives does not stay
 joins_stays : (c : Code) → has_arrival c ≡ true → c ≡ Stays → ⊥
 joins_stays c j e = true≢false (sym j ∙ ap has_arrival e)
 
@@ -78,9 +80,11 @@ module _ (epoch : ℕ) (row : List Code) (plan : List Pair) (material : List ℕ
   abbrev ChangesAt : ℕ → ℕ → Type 0
   ChangesAt n u = ChangesAbove (epoch + 1) row former present n u
 
+  -- no key was made after the new epoch
   past : (n : ℕ) → (present n).made ≤ epoch + 1
   past = made_past (epoch + 1) row material former present new.renewal (λ n. omega (arith, old.made_past n))
 
+  -- what the publishing makes of any node at or above the leaf of a cradle
   at : (n : ℕ) → 0 < n → (t : Seat) → IsCradle t.cradle → IsWithin (leaf_at t) n → ChangesAt n (leaf_at t)
   at n o t c w = above (epoch + 1) row material former present new.renewal n (leaf_at t) (cradled_leaf t.cradle c) o w
 
@@ -95,6 +99,7 @@ module _ (epoch : ℕ) (row : List Code) (plan : List Pair) (material : List ℕ
         | untouched q h ↦ departs_moves (code_at row (leaf_at s.seat)) d h
       ]
 
+  -- a stay that had ended before covers no present key's epoch either
   ended_not : (n : ℕ) → 0 < n → (s : Stay) → In s ended → IsWithin (leaf_at s.seat) n → Covers s (present n).made → ⊥
   ended_not n o s i w c = let ok = old.ended_are s i in
       elim (at n o s.seat ok.cradled w) [
@@ -104,6 +109,7 @@ module _ (epoch : ℕ) (row : List Code) (plan : List Pair) (material : List ℕ
         | untouched q h ↦ omega (arith, old.holders_last n o s (inr i) w (omega (arith, q, c.0), omega (arith, q, c.1)), ok.over)
       ]
 
+  -- a stay that may hold a node's present key lasts into the new epoch
   holders_last : (n : ℕ) → 0 < n → (s : Stay) → IsStayAfter s → IsWithin (leaf_at s.seat) n → Covers s (present n).made → s.last ≡ epoch + 1
   holders_last n o s (inl i) w c = i.1
   holders_last n o s (inr h) w c = elim (new.ended_are s h) [
@@ -143,6 +149,7 @@ module _ (epoch : ℕ) (row : List Code) (plan : List Pair) (material : List ℕ
     | ended_before i ↦ absurd (omega (arith, old.holders_last n o s (inr i) w c, (old.ended_are s i).over))
   ]
 
+  -- whoever may hold a pair's opener may hold its content's new key
   planned_right : (o : Opener) (n : ℕ) → In (pair o n) plan → IsRightLink (epoch + 1) seats′ ended′ (opener_name former present o) (key_name n (epoch + 1))
   planned_right (Present o) n i = record {
     content_node = inner;
@@ -176,6 +183,7 @@ module _ (epoch : ℕ) (row : List Code) (plan : List Pair) (material : List ℕ
           let last = lasts_on n (changed_inner row n (plan_content new.lawful (pair (Former o) n) i)).0 may.1.1 s a w c in
           (w, (omega (arith, c.0, old.made_past n), omega (arith, last)))
 
+  -- every link gives its content only to who may hold it, also after the publishing
   links_right : (m n : KeyName) → link′ m n → IsRightLink (epoch + 1) seats′ ended′ m n
   links_right m n l = elim (new.links_are m n l) [
     | inl k ↦ right_still m n (old.links_right m n k)
@@ -189,6 +197,7 @@ module _ (epoch : ℕ) (row : List Code) (plan : List Pair) (material : List ℕ
   abbrev Reaches : Seat → ℕ → Type 0
   Reaches t n = IsReachedByLinks (IsLeafKeyName t) link′ (key_name n (present n).made)
 
+  -- what was reached before is still reached
   as_before : (t : Seat) {n : KeyName} → IsReachedByLinks (IsLeafKeyName t) link n → IsReachedByLinks (IsLeafKeyName t) link′ n
   as_before t f = followed_more (λ n s. s) new.links_kept f
 
@@ -207,10 +216,12 @@ module _ (epoch : ℕ) (row : List Code) (plan : List Pair) (material : List ℕ
     | arrived k first j ↦ absurd (joins_stays (code_at row (leaf_at t)) j c)
   ]
 
+  -- a seat after the publishing is in a cradle
   seat_cradled : (t : Seat) → IsSeatAfter epoch seats row t → IsCradle t.cradle
   seat_cradled t (stays_on i e) = (old.seats_are t i).cradled
   seat_cradled t (arrived c first j) = c
 
+  -- the leaf of a seat counts as occupied in the row
   seat_occupied : (t : Seat) → IsSeatAfter epoch seats row t → is_occupied row (leaf_at t) ≡ true
   seat_occupied t s = occupied_leaf row (leaf_at t) (cradled_leaf t.cradle (seat_cradled t s)) ∙ sits s
     where
@@ -218,6 +229,7 @@ module _ (epoch : ℕ) (row : List Code) (plan : List Pair) (material : List ℕ
       sits (stays_on i e) = ap seats_code e
       sits (arrived c first j) = (joins_is (code_at row (leaf_at t)) j).0
 
+  -- the present key of a node is reached, if those of the nodes beneath it are
   up : (t : Seat) (n : ℕ) → IsSeatAfter epoch seats row t → 0 < n → IsWithin (leaf_at t) n →
       ((m : ℕ) → n < m → IsWithin (leaf_at t) m → Reaches t m) → Reaches t n
   up t n s o w beneath = elim (at n o t (seat_cradled t s) w) [
@@ -249,9 +261,11 @@ module _ (epoch : ℕ) (row : List Code) (plan : List Pair) (material : List ℕ
   up_from t s zero n h o w = absurd (omega (arith, halved_low w.0 (leaf_at t), w.1, (cradled_leaf t.cradle (seat_cradled t s)).1))
   up_from t s (suc k) n h o w = up t n s o w (λ m l v. up_from t s k m (omega arith) (omega arith) v)
 
+  -- who is seated reaches the present key of its leaf, and of each node above it
   path : (t : Seat) → In t seats′ → (n : ℕ) → 0 < n → IsWithin (leaf_at t) n → Reaches t n
   path t i n o w = up_from t (new.seats_are t i) 256 n (omega arith) o w
 
+  -- a seat began by the new epoch, and its leaf's key was made when it began
   seats_are : (t : Seat) → IsSeatAfter epoch seats row t → IsSteadySeat (epoch + 1) (λ n. (present n).made) t
   seats_are t (stays_on i e) = record { cradled = ok.cradled; began = (ok.began.0, omega (arith, ok.began.1)); since = since }
     where
@@ -271,12 +285,14 @@ module _ (epoch : ℕ) (row : List Code) (plan : List Pair) (material : List ℕ
     since = new.renewal.arrival_new (leaf_at t) (cradled_leaf t.cradle c) j ∙ sym first;
   }
 
+  -- who is seated reaches the new group key
   newest : (t : Seat) → In t seats′ → IsReachedByLinks (IsLeafKeyName t) link′ (key_name 1 (epoch + 1))
   newest t i =
       let c = seat_cradled t (new.seats_are t i) in
       let w : IsWithin (leaf_at t) 1 = (7, omega arith) in
       subst (λ (e : ℕ). IsReachedByLinks (IsLeafKeyName t) link′ (key_name 1 e)) (new.renewal.changed_new 1 new.root) (path t i 1 (omega arith) w)
 
+  -- each stay reaches the group keys of its epochs
   history : (s : Stay) → IsStayAfter s → (e : ℕ) → Covers s e → IsReachedByLinks (IsLeafKeyName s.seat) link′ (key_name 1 e)
   history s (inl i) e c = elim (cases_eq e (epoch + 1)) [
     | inl q ↦ rw q (newest s.seat i.0)
@@ -290,11 +306,13 @@ module _ (epoch : ℕ) (row : List Code) (plan : List Pair) (material : List ℕ
     | ended_before i ↦ as_before s.seat (old.history s (inr i) e c)
   ]
 
+  -- a stay that has ended is over by the new epoch
   ended_are : (s : Stay) → IsEndedAfter epoch seats ended row s → IsSteadyStay (epoch + 1) s
   ended_are s (departed i d l) = let ok = old.seats_are s.seat i in
       record { cradled = ok.cradled; began = (ok.began.0, omega (arith, ok.began.1)); over = omega arith }
   ended_are s (ended_before i) = let ok = old.ended_are s i in record { cradled = ok.cradled; began = ok.began; over = omega (arith, ok.over) }
 
+  -- all that holds of seats, ended stays, keys and links holds after the publishing
   pub steady_next : IsSteady (epoch + 1) seats′ ended′ (λ n. (present n).made) link′
   steady_next = record {
     seats_are = λ t i. seats_are t (new.seats_are t i);

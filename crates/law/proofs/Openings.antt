@@ -54,6 +54,7 @@ pub record IsAcceptedPublishing (s : State) (p : Publishing) : Type 0 where
   pub plan : IsLawfulPlan (row s) (publishing_plan s p)
   pub file : files.IsSoundFile p.wrap.length (publishing_file s p)
 
+-- all this is known of a publishing that passed the checks before its plan
 pub publishing_accepted : (s : State) (p : Publishing) → IsPlannedPublishing s p → IsAcceptedPublishing s p
 publishing_accepted s p it =
     let h = plan_passed s p it.passes in
@@ -71,6 +72,7 @@ abbrev pub MayHave : State → Publishing → ℕ → NodeKey → Type 0
 MayHave s p n e = (e ≡ old_keys s n) ⊎ ((e ≡ new_keys s p n) ⊎ (e ≡ unmade_key))
 
 module _ (s : State) (p : Publishing) (a : IsAcceptedPublishing s p) where
+  -- a node's keys before and after, if made in the same epoch, are the same key
   same_key : (n : ℕ) → 0 < n → 1 ≤ (new_keys s p n).made → (old_keys s n).made ≡ (new_keys s p n).made → old_keys s n ≡ new_keys s p n
   same_key n o l e = elim (cases_Bool (is_changed (row s) n)) [
     | inl y ↦ absurd (omega (arith, a.change.changed_new n y, made_by_now s n a.before o))
@@ -91,6 +93,7 @@ module _ (s : State) (p : Publishing) (a : IsAcceptedPublishing s p) where
   decided (Former n) e h l m (inr (inl q)) = let r = sym m ∙ ap epoch_of_key q in q ∙ sym (same_key n h (omega (arith, r)) r)
   decided (Former n) e h l m (inr (inr q)) = absurd (omega (arith, ap epoch_of_key q))
 
+  -- the key of an opener has 32 bytes
   key_sized : (o : Opener) → IsSized 32 (opener_key (old_keys s) (new_keys s p) o).key
   key_sized (Present n) = a.since.keys_sized n
   key_sized (Former n) = a.before.keys_sized n
@@ -100,6 +103,7 @@ module _ (s : State) (p : Publishing) (a : IsAcceptedPublishing s p) where
   OpensToNewKey e w = MayHave s p w.opener.node e → e.made ≡ w.opener.epoch →
       wrap_content p.wrap (s.epoch + 1) e.key w ≡ Some (new_keys s p w.content).key
 
+  -- the wrap of a pair opens to its content's new key
   pair_opened : (q : Pair) → In q (publishing_plan s p) → (e : NodeKey) → OpensToNewKey e (wrap_for s p q)
   pair_opened q i e k m =
       let w = a.file.each_wrap (wrap_for s p q)
@@ -114,6 +118,7 @@ module _ (s : State) (p : Publishing) (a : IsAcceptedPublishing s p) where
       ∙ a.wrap.opens_sealed (opener_key (old_keys s) (new_keys s p) q.opener).key name (new_keys s p q.content).key (key_sized q.opener) sized
       (a.since.keys_sized q.content)
 
+  -- every wrap of the file opens to its content's new key
   pub wrap_opened : (w : WrappedKey) → In w (publishing_file s p).wraps → (e : NodeKey) → OpensToNewKey e w
   wrap_opened w i e =
       let r = in_map (wrap_for s p) (publishing_plan s p) w i in

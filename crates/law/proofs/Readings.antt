@@ -43,9 +43,11 @@ module _ (s : State) (p : Publishing) (planned : IsPlannedPublishing s p) (leaf 
   abbrev a : IsAcceptedPublishing s p
   a = publishing_accepted s p planned
 
+  -- every new key fits an entry of a ring
   new_fits : (n : ℕ) → 0 < n → IsFitting (new_keys s p n)
   new_fits n o = (omega (arith, made_by_now (server_of_next_epoch s p.material) n a.since o, a.since.epoch_range), (a.since.keys_sized n).0)
 
+  -- whatever a player can have for a node fits an entry of a ring
   fits : (n : ℕ) → 0 < n → (e : NodeKey) → MayHave s p n e → IsFitting e
   fits n o e (inl q) = rw q (omega (arith, made_by_now s n planned.sound o, planned.sound.epoch_range), (planned.sound.keys_sized n).0)
   fits n o e (inr (inl q)) = rw q (new_fits n o)
@@ -64,6 +66,7 @@ module _ (s : State) (p : Publishing) (planned : IsPlannedPublishing s p) (leaf 
       (ap (λ (f : Rekey). f.epoch) file.reads_back) file.reads_back back.1
       ∙ follow s p a leaf had b
 
+  -- who stays reads the file, and has the new keys up to the root
   pub staying_reads : IsStayingPlayer s leaf ring → ReadsPublishing s p leaf ring
   unfolding path_entries
   staying_reads st = reads (λ k. old_keys s (ancestor k leaf)) (record {
@@ -79,6 +82,7 @@ module _ (s : State) (p : Publishing) (planned : IsPlannedPublishing s p) (leaf 
           (false_from_ne_true (is_changed (row s) leaf) (λ y. omega (arith, (changed_inner (row s) leaf y).1, st.is_leaf.0)))
           (λ l. (ap has_arrival st.stays, ap is_emptied st.stays)))
 
+  -- who arrives reads the file, and has the new keys up to the root
   pub arriving_reads : IsArrivingPlayer s p.material leaf ring → ReadsPublishing s p leaf ring
   arriving_reads ar =
       let joined = joins_is (code_at (row s) leaf) ar.arrives in

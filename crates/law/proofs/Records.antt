@@ -32,6 +32,7 @@ abbrev arrival : ℕ → ℕ → Arrival
 arrival x c = record { serial = x; cradle = c }
 
 module _ (before after : ℕ → Cradle) (b : Book) (old : IsRecorded before b) where
+  -- with an arrival noted, what the cradles say still stands in the book
   admit_writes : (x c : ℕ) → ChangesOneCradle before after c (with_arrival (before c) x) → IsRecorded after (book_with_call b (admit x c))
   admit_writes x c o = record { seat = sits; arrival = comes; departing = old.departing }
     where
@@ -53,6 +54,7 @@ module _ (before after : ℕ → Cradle) (b : Book) (old : IsRecorded before b) 
         | inr n ↦ inr (old.arrival d y k (sym (ap noted_arrival (o.elsewhere d k n)) ∙ e))
       ]
 
+  -- with a departure noted, what the cradles say still stands in the book
   remove_writes : (x c : ℕ) → IsCradle c → occupant (before c) ≡ Some x → ChangesOneCradle before after c (with_departure (before c)) →
       IsRecorded after (book_with_call b (remove x))
   remove_writes x c k s o = record {
@@ -67,6 +69,7 @@ module _ (before after : ℕ → Cradle) (b : Book) (old : IsRecorded before b) 
         | inr n ↦ ap f (o.elsewhere d k n)
       ]
 
+  -- with all notes cleared, what the cradles say still stands in the book
   drop_writes : ((d : ℕ) → IsCradle d → after d ≡ without_notes (before d)) → IsRecorded after (book_with_call b drop_notes)
   drop_writes each = record {
     seat = λ d y k e. old.seat d y k (sym (ap occupant (each d k) ∙ Notes.cleared_seated (before d)) ∙ e);
@@ -74,6 +77,7 @@ module _ (before after : ℕ → Cradle) (b : Book) (old : IsRecorded before b) 
     departing = λ x i. absurd i;
   }
 
+  -- with all notes carried out, what the cradles say still stands in the book
   publish_writes : ((d : ℕ) → IsCradle d → after d ≡ after_change (before d)) →
       ((t : Seat) → In t b.seats → is_departing b t ≡ has_departure (before t.cradle)) →
       IsRecorded after (book_of_next_epoch b)
@@ -135,6 +139,7 @@ member_next b x e m = elim (stay_in b m.stay m.is_stay) [
       covers = (m.covers.0, omega (arith, m.covers.1, l));
     }
 
+-- no call takes a membership out of the book
 member_told : (b : Book) (c : Call) (r : Bool) (x e : ℕ) → IsMember b x e → IsMember (book_after b c r) x e
 member_told b c true x e m = m
 member_told b (admit y d) false x e m = record { stay = m.stay; is_stay = m.is_stay; has_serial = m.has_serial; covers = m.covers }
@@ -147,6 +152,7 @@ member_told b (card y buffer) false x e m = m
 abbrev pub IsSiteRecorded : Site → Type 0
 IsSiteRecorded w = IsRecorded (cradle w.server) w.book
 
+-- after any call, what the cradles say still stands in the book
 written_next : (w : Site) → IsSoundServer w.server → IsSoundSite w → IsSiteRecorded w → (c : Call) → IsGivenLawfully c → IsSiteRecorded (site_after w c)
 written_next w sound kept old = after_call IsSiteRecorded w sound (record {
   admits = λ x c ok i k e. admit_writes (cradle w.server) _ w.book old x c (one_other w.server c (with_arrival (cradle w.server c) x) sound.cradle_count k);
@@ -167,6 +173,7 @@ none_at f none c x e = none-some x (sym (ap f (empty 128 (c - 1)) ∙ none) ∙ 
     empty (suc k) (suc n) = empty k n
 
 module _ (laws : StateLaws) where
+  -- after any calls what the cradles say stands in the book
   pub run_written : (calls : List Call) → AllLawfullyGiven calls → IsSiteRecorded (site_of calls)
   run_written [] given = record {
     seat = λ c x k e. absurd (none_at occupant refl c x e);
@@ -176,6 +183,7 @@ module _ (laws : StateLaws) where
   run_written (c ∷ earlier) given =
       written_next (site_of earlier) (run_sound laws earlier given.1) (run_kept laws earlier given.1) (run_written earlier given.1) c given.0
 
+  -- who is in a cradle is a member in the server's epoch
   now_member : (calls : List Call) → AllLawfullyGiven calls → (c x : ℕ) → IsCradle c → occupant (cradle (site_of calls).server c) ≡ Some x →
       IsMember (site_of calls).book x (site_of calls).server.epoch
   now_member calls given c x k e =
@@ -188,6 +196,7 @@ module _ (laws : StateLaws) where
         covers = (omega (arith, (kept.steady.seats_are s.0 s.1.0).began.1, kept.same_epoch), omega (arith, kept.same_epoch));
       }
 
+  -- who was in a cradle stays a member in the epoch of that moment, whatever is called later
   pub members_seated : (later earlier : List Call) → AllLawfullyGiven (later ++ earlier) → (c x : ℕ) → IsCradle c →
       occupant (cradle (site_of earlier).server c) ≡ Some x →
       IsMember (site_of (later ++ earlier)).book x (site_of earlier).server.epoch

@@ -19,6 +19,7 @@ pub data ChangesAbove (epoch : ℕ) (row : List Code) (former present : Keys) (n
   untouched : (present n).made ≡ (former n).made → is_change_code (code_at row u) ≡ false → ChangesAbove epoch row former present n u
 
 module _ (epoch : ℕ) (row : List Code) (material : List ℕ) (former present : Keys) (r : IsRenewal epoch row material former present) where
+  -- what the change makes of a leaf, by its code
   at_leaf : (u : ℕ) → IsLeaf u → is_changed row u ≡ false → (c : Code) → code_at row u ≡ c → ChangesAbove epoch row former present u u
   at_leaf u l n Empty e = untouched (ap (λ k. k.made) (r.others_kept u n (λ h. (ap has_arrival e, ap is_emptied e)))) (ap is_change_code e)
   at_leaf u l n Stays e = untouched (ap (λ k. k.made) (r.others_kept u n (λ h. (ap has_arrival e, ap is_emptied e)))) (ap is_change_code e)
@@ -34,6 +35,7 @@ module _ (epoch : ℕ) (row : List Code) (material : List ℕ) (former present :
       (stands_from is_change_code row n u o l w m)) ∙ e))
   unmoved n u l o i w e false m = refl
 
+  -- what the change makes of any node at or above a leaf
   pub above : (n u : ℕ) → IsLeaf u → 0 < n → IsWithin u n → ChangesAbove epoch row former present n u
   above n u l o w = go (is_changed row n) refl
     where

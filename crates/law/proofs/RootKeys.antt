@@ -20,6 +20,7 @@ ends p e (suc k) = go (p (suc (suc k))) (ends p e k)
     go true r = (suc (suc k) ∷ r.0, ap (λ (l : List ℕ). suc (suc k) ∷ l) r.1)
     go false r = r
 
+-- of the nodes that get a new key, the root is the last
 root_last : (row : List Code) → is_changed row 1 ≡ true → (zs : List ℕ) × (changed_nodes row ≡ zs ++ (1 ∷ []))
 unfolding changed_nodes inner_nodes
 root_last row e = ends (is_changed row) e 126
@@ -30,9 +31,11 @@ module _ (epoch : ℕ) (row : List Code) (material : List ℕ) (former present :
   abbrev before_root : List ℕ
   before_root = arrival_leaves row ++ (root_last row root).0
 
+  -- the root is the last that receives a key
   receivers_are : receivers row ≡ before_root ++ (1 ∷ [])
   receivers_are = ap (λ (l : List ℕ). arrival_leaves row ++ l) (root_last row root).1 ∙ sym (append_assoc (arrival_leaves row) (root_last row root).0 (1 ∷ []))
 
+  -- the last 32 bytes that are drawn are the root's new key
   pub root_key : drawn_size row ≤ length material → drop (length (take (drawn_size row) material) - 32) (take (drawn_size row) material) ≡ (present 1).key
   root_key enough =
       let n : ℕ = length before_root in

@@ -79,6 +79,7 @@ last_or_before c earlier t bytes g = go g.later g.is_call
       was_written = g.was_written;
     })
 
+-- before the first call no card was given
 none_given : (t : Seat) (bytes : List ℕ) → IsGivenCard [] t bytes → ⊥
 none_given t bytes g = omega (arith, ap (λ (l : List Call). length l) g.is_call, length-append g.later (card t.serial g.buffer ∷ g.earlier))
 
@@ -115,12 +116,15 @@ module _ (laws : StateLaws) (players : PlayerLaws) (c : Call) (earlier : List Ca
   abbrev WasGiven : Seat → List ℕ → Type 0
   WasGiven = IsGivenCard (c ∷ earlier)
 
+  -- the server before the call is sound
   sound : IsSoundServer w.server
   sound = run_sound laws earlier all
 
+  -- the site before the call is sound
   kept : IsSoundSite w
   kept = run_kept laws earlier all
 
+  -- a card was given only to a seat that had begun
   given_past : (t : Seat) (bytes : List ℕ) → WasGiven t bytes → t.first ≤ w.book.epoch
   given_past t bytes g = elim (last_or_before c earlier t bytes g) [
     | inl h ↦ (kept.steady.seats_are t (contains_in w.book.seats t h.was_seat)).began.1
@@ -140,20 +144,24 @@ module _ (laws : StateLaws) (players : PlayerLaws) (c : Call) (earlier : List Ca
     as_seat = it.as_seat;
   }
 
+  -- after an admit the players of all stays do what they should
   admit_plays : (x d : ℕ) (v : Verdict (Unit {0})) → PlaysAt (site_after_admit w x d v) WasGiven
   admit_plays x d (Ok a) = with_cards
   admit_plays x d (Err f) = with_cards
 
+  -- after a remove the players of all stays do what they should
   remove_plays : (x : ℕ) (o : Option ℕ) (v : Verdict (Unit {0})) → PlaysAt (site_after_remove w x o v) WasGiven
   remove_plays x None (Ok a) = with_cards
   remove_plays x (Some i) (Ok a) = with_cards
   remove_plays x o (Err f) = with_cards
 
+  -- after a card call the players of all stays do what they should
   card_plays : (x : ℕ) (buffer : List ℕ) (r : Bool) →
       PlaysAt (record { server = w.server; book = book_after w.book (card x buffer) r; files = w.files }) WasGiven
   card_plays x buffer true = with_cards
   card_plays x buffer false = with_cards
 
+  -- after a publishing the players of all stays do what they should
   publish_plays : (p : Publishing) → IsGivenLawfully (publish p) → PlaysAt (site_after w (publish p)) WasGiven
   publish_plays p g =
       accepted_or_refused w.server p
@@ -162,6 +170,7 @@ module _ (laws : StateLaws) (players : PlayerLaws) (c : Call) (earlier : List Ca
       (λ f since next. with_cards)
       (run_sound laws (publish p ∷ earlier) (g, all)) (run_kept laws (publish p ∷ earlier) (g, all))
 
+-- after one call more the players of all stays do what they should
 plays_then : (laws : StateLaws) (players : PlayerLaws) (c : Call) (earlier : List Call) → IsGivenLawfully c → AllLawfullyGiven earlier → PlaysAfter earlier →
     PlaysAt (site_after (site_of earlier) c) (IsGivenCard (c ∷ earlier))
 plays_then laws players (admit x d) earlier given all old = admit_plays laws players (admit x d) earlier given all old x d
@@ -173,6 +182,7 @@ plays_then laws players (publish p) earlier given all old = publish_plays laws p
 plays_then laws players (card x buffer) earlier given all old = card_plays laws players (card x buffer) earlier given all old x buffer
     (is_refused_call (site_of earlier).server (card x buffer))
 
+-- after any calls the players of all stays do what they should
 pub playing : StateLaws → PlayerLaws → (calls : List Call) → AllLawfullyGiven calls → PlaysAfter calls
 playing laws players [] all = record {
   given_past = λ t bytes g. absurd (none_given t bytes g);

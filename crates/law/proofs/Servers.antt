@@ -16,6 +16,7 @@ use Rattle.law.specs.Runs.{ComesFromRun}
 use Rattle.law.specs.Law.{LawHoldsFor}
 use Rattle.law.proofs.EveryRun.{every_run}
 
+-- a new server is sound, and comes from the run without calls
 pub new_kept : IsSoundServer new_state × ∥ ComesFromRun new_state ∥₁
 new_kept = (state_laws.new_sound, ∣ ([], (tt, refl)) ∣₁)
 
@@ -26,9 +27,11 @@ pub publish_given : {plan : StrategyMeaning} {wrap : WrapMeaning} → IsLawfulSt
 publish_given lawful wrap material bytes = (lawful, (wrap, bytes_at material (λ i. Fits-lt-pow (bytes i))))
 
 module _ (c : Call) (given : IsGivenLawfully c) (s t : State) (is : t ≡ server_after s c) where
+  -- a call leaves a sound server sound
   pub sound_after : IsSoundServer s → IsSoundServer t
   sound_after sound = subst IsSoundServer (sym is) (state_laws.after_sound s c given sound)
 
+  -- a call on a server that comes from a run leaves one that does
   pub run_after : ∥ ComesFromRun s ∥₁ → ∥ ComesFromRun t ∥₁
   run_after from = ∥∥₁_map from (λ r. (c ∷ r.0, ((given, r.1.0), ap (λ u. server_after u c) r.1.1 ∙ sym is)))
 

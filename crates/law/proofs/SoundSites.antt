@@ -60,6 +60,7 @@ one_other s c it n k = record {
 }
 
 module _ (w : Site) (sound : IsSoundServer w.server) (old : IsSoundSite w) where
+  -- a site stays sound with other cradles and notes, if serials are valid and both agree
   kept_with : (cradles : List Cradle) (arrivals : List Arrival) (departures : List ℕ) →
       HasValidSerials (record w.book { arrivals = arrivals; departures = departures }) →
       Agrees (λ c. get_or cradles (c - 1) Empty) (record w.book { arrivals = arrivals; departures = departures }) →
@@ -78,6 +79,7 @@ module _ (w : Site) (sound : IsSoundServer w.server) (old : IsSoundSite w) where
     all_readable = old.all_readable;
   }
 
+  -- an accepted admit leaves a sound site
   admit_keeps : (x c : ℕ) → admit_verdict w.server x c ≡ Ok tt → is_serial x ≡ true → IsCradle c → holder (cradle w.server c) ≡ None →
       IsSoundSite (site_after_admit w x c (Ok tt))
   admit_keeps x c ok i k e =
@@ -87,6 +89,7 @@ module _ (w : Site) (sound : IsSoundServer w.server) (old : IsSoundSite w) where
       (admit_agrees (cradle w.server) (cradle (server_with_arrival w.server x c)) w.book old.agrees x c k e
       (one_other w.server c (with_arrival (cradle w.server c) x) sound.cradle_count k))
 
+  -- an accepted remove leaves a sound site
   remove_keeps : (x i : ℕ) → IsCradle (i + 1) → occupant (cradle w.server (i + 1)) ≡ Some x → IsSoundSite (site_after_remove w x (Some i) (Ok tt))
   remove_keeps x i k is =
       kept_with (set w.server.cradles (i + 1 - 1) (with_departure (cradle w.server (i + 1))))
@@ -95,6 +98,7 @@ module _ (w : Site) (sound : IsSoundServer w.server) (old : IsSoundSite w) where
       (λ d h s. sound.seats_apart d (i + 1) x h k s is)
       (one_other w.server (i + 1) (with_departure (cradle w.server (i + 1))) sound.cradle_count k))
 
+  -- dropping the notes leaves a sound site
   drop_keeps : IsSoundSite (site_after w drop_notes)
   drop_keeps = kept_with (map without_notes w.server.cradles) [] []
       (record { seats = old.serials.seats; arrivals = λ a h. absurd h; ended = old.serials.ended })
@@ -123,6 +127,7 @@ module _ (laws : StateLaws) (w : Site) (sound : IsSoundServer w.server) (old : I
   present = keys_in (server_of_next_epoch s p.material).nodes
 
   module _ (ok : publish_plan_verdict s p ≡ Ok tt) where
+    -- what the publishing makes of seats, ended stays, keys and links
     change : IsChange b.epoch (row s) (publishing_plan s p) p.material former present b.seats (book_of_next_epoch b).seats b.ended (book_of_next_epoch b).ended
         (IsLink w.files) (IsLink (new_edition s p ∷ w.files))
     change = record {
@@ -139,11 +144,13 @@ module _ (laws : StateLaws) (w : Site) (sound : IsSoundServer w.server) (old : I
           (link_new laws s p given sound ok w.files q i);
     }
 
+    -- the group key of the new file is the root's new key
     newest : (x : Edition) → In x (new_edition s p ∷ w.files) → x.notice.epoch ≡ s.epoch + 1 → group_key x ≡ (present 1).key
     newest x (inl q) e = ap group_key q ∙ root_key (s.epoch + 1) (row s) p.material former present (laws.renewal s p.material sound)
         (laws.noted_root s sound (noted_of s p ok)) (plan_passed s p ok).1.1
     newest x (inr i) e = absurd (omega (arith, e, (epochs_past w.files b.epoch old.in_order x i).1, old.same_epoch))
 
+    -- an accepted publishing leaves a sound site
     pub accepted : IsSoundSite (site_of_next_epoch w p)
     accepted = record {
       same_epoch = ap (λ n. n + 1) old.same_epoch;
@@ -164,6 +171,7 @@ none_made (suc k) zero = refl
 none_made (suc k) (suc n) = none_made k n
 
 module _ (laws : StateLaws) where
+  -- any call leaves a sound site
   step : (w : Site) (c : Call) → IsGivenLawfully c → IsSoundServer w.server → IsSoundSite w → IsSoundSite (site_after w c)
   step w c given sound old = after_call IsSoundSite w sound (record {
     admits = admit_keeps w sound old;
@@ -172,6 +180,7 @@ module _ (laws : StateLaws) where
     publishes = accepted laws w sound old;
   }) old c given
 
+  -- a site without calls is sound
   start : IsSoundSite (site_of [])
   start = record {
     same_epoch = refl;
@@ -191,6 +200,7 @@ module _ (laws : StateLaws) where
     all_readable = λ x i. absurd i;
   }
 
+  -- after any calls the site is sound
   pub run_kept : (calls : List Call) → AllLawfullyGiven calls → IsSoundSite (site_of calls)
   run_kept [] given = start
   run_kept (c ∷ earlier) given = step (site_of earlier) c given.0 (run_sound laws earlier given.1) (run_kept earlier given.1)

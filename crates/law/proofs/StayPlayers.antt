@@ -41,6 +41,7 @@ pub record StayPlays (epoch : ℕ) (keys : Keys) (seats : List Seat) (files : Li
 -- What a reading that is accepted makes of the player and of its ring.
 module _ (x : PlayerNumbers) (wanted : ℕ) (w : WrapMeaning) (file work ring : List ℕ) (es : List NodeKey)
     (ok : read_verdict x.leaf wanted w file work ring ≡ Ok es) where
+  -- a player that waits is seated in the wanted epoch, with the ring that was read
   pub waiting_reads : x.epoch ≡ wanted →
       (is_player_refused (read w file work) (waiting x) ring ≡ false)
       × ((player_after (read w file work) (waiting x) ring ≡ seated (player_numbers x.serial x.leaf wanted))
@@ -54,6 +55,7 @@ module _ (x : PlayerNumbers) (wanted : ℕ) (w : WrapMeaning) (file work ring : 
         ),
       )
 
+  -- a player that is seated moves to the next epoch, with the ring that was read
   pub seated_reads : x.epoch + 1 ≡ wanted →
       (is_player_refused (read w file work) (seated x) ring ≡ false)
       × ((player_after (read w file work) (seated x) ring ≡ seated (player_numbers x.serial x.leaf wanted))

@@ -54,5 +54,6 @@ pub record IsSteady (epoch : ℕ) (seats : List Seat) (ended : List Stay) (made 
   pub path : (t : Seat) → In t seats → (n : ℕ) → 0 < n → IsWithin (leaf_at t) n → IsReachedByLinks (IsLeafKeyName t) link (key_name n (made n))
   pub history : (s : Stay) → IsStayOf epoch seats ended s → (e : ℕ) → Covers s e → IsReachedByLinks (IsLeafKeyName s.seat) link (key_name 1 e)
 
+-- the leaf of a cradle is one
 pub cradled_leaf : (c : ℕ) → IsCradle c → IsLeaf (leaf_of c)
 cradled_leaf c h = (omega arith, omega arith)

@@ -35,16 +35,19 @@ use Rattle.player_rules.proofs.Searches.{found_opens, none_opens}
 use Rattle.player_rules.proofs.Rings.{lower, node_there, beneath_there}
 use Rattle.law.proofs.Openings.{old_keys, new_keys, wrap_for, IsAcceptedPublishing, MayHave, wrap_opened}
 
+-- what stands at a place of the list is in it
 at_in : (ws : List WrappedKey) (i : ℕ) → i < length ws → In (get_or ws i no_wrap) ws
 at_in [] i l = absurd (omega arith)
 at_in (w ∷ ws) zero l = inl refl
 at_in (w ∷ ws) (suc i) l = inr (at_in ws i (omega arith))
 
+-- what is in the list stands at some place of it
 in_at : (ws : List WrappedKey) (w : WrappedKey) → In w ws → (i : ℕ) × ((i < length ws) × (get_or ws i no_wrap ≡ w))
 in_at [] w h = absurd h
 in_at (x ∷ ws) w (inl e) = (0, (omega arith, sym e))
 in_at (x ∷ ws) w (inr h) = let r = in_at ws w h in (suc r.0, (omega (arith, r.1.0), r.1.1))
 
+-- a node is listed in the file exactly if it gets a new key
 listed_is : (s : State) (n : ℕ) → lists (changed_nodes (row s)) n ≡ is_changed (row s) n
 listed_is s n = same_test (lists (changed_nodes (row s)) n) (is_changed (row s) n)
     (λ e. let w = some_who (λ m. eqb m n) (changed_nodes (row s)) e in ap (is_changed (row s)) (sym (eqb-true w.0 n w.1.1)) ∙ in_changed (row s) w.0 w.1.0)
@@ -70,6 +73,7 @@ module _ (s : State) (p : Publishing) (a : IsAcceptedPublishing s p) (v : ℕ) (
     abbrev node : ℕ
     node = ancestor k v
 
+    -- each entry of the ring is what a player can have for its node
     known_at : (j : ℕ) → j < 8 → MayHave s p (ancestor j v) (keys_in ring j)
     known_at j m = elim (cases_lt j k) [
       | inl x ↦ inr (inl (r.below j x m))
@@ -86,6 +90,7 @@ module _ (s : State) (p : Publishing) (a : IsAcceptedPublishing s p) (v : ℕ) (
         (suc i, (omega arith, (e, r.below (suc i) under (omega arith) ∙ ap (new_keys s p) e)))
     opener_at (Former o) (e, st) = (k, (h, (sym e, r.above k (omega arith) h ∙ b.stayed st k ∙ ap (old_keys s) (sym e))))
 
+    -- for a node with a new key, some wrap opens with some entry of the ring
     opens_some : is_changed (row s) node ≡ true → (i : ℕ) × ((j : ℕ) × Opens ring v node (publishing_file s p).wraps i j)
     opens_some c =
         let q = plan_served a.plan node v c b.is_leaf (beneath_there k v l) b.seat in
@@ -100,6 +105,7 @@ module _ (s : State) (p : Publishing) (a : IsAcceptedPublishing s p) (v : ℕ) (
         } in
         (x.0, (e.0, opens))
 
+    -- at a node with a new key, the player reads that key into its ring
     level_read : is_changed (row s) node ≡ true → ring_after_level p.wrap (publishing_file s p) v k ring ≡ Ok (set ring k (new_keys s p node))
     unfolding ring_after_level
     level_read c = cond-true _ _ _ (listed_is s node ∙ c) ∙ go (openable_wrap ring v node 0 (publishing_file s p).wraps) refl
@@ -116,6 +122,7 @@ module _ (s : State) (p : Publishing) (a : IsAcceptedPublishing s p) (v : ℕ) (
             ∙ ap (λ m. Ok (set ring k (record { made = s.epoch + 1; key = (new_keys s p m).key }))) x.content
             ∙ ap (λ made. Ok (set ring k (record { made = made; key = (new_keys s p node).key }))) (sym (a.change.changed_new node c))
 
+    -- a ring with the new key at this level, and else the same, is new below the next level
     next : (t : List NodeKey) → length t ≡ 8 → keys_in t k ≡ new_keys s p node → ((j : ℕ) → (j ≡ k → ⊥) → keys_in t j ≡ keys_in ring j) → IsNewBelow (k + 1) t
     next t size here there = record {
       size = size;
@@ -126,6 +133,7 @@ module _ (s : State) (p : Publishing) (a : IsAcceptedPublishing s p) (v : ℕ) (
       above = λ j g m. there j (λ e. omega arith) ∙ r.above j (omega arith) m;
     }
 
+    -- one level up succeeds, and leaves a ring that is new below the next level
     level : (t : List NodeKey) × ((ring_after_level p.wrap (publishing_file s p) v k ring ≡ Ok t) × IsNewBelow (k + 1) t)
     unfolding ring_after_level
     level = elim (cases_Bool (is_changed (row s) node)) [
@@ -136,6 +144,7 @@ module _ (s : State) (p : Publishing) (a : IsAcceptedPublishing s p) (v : ℕ) (
       | inr z ↦ (ring, (cond-false _ _ _ (listed_is s node ∙ z), next ring r.size (r.above k (omega arith) h ∙ b.kept k l h z) (λ j x. refl)))
     ]
 
+  -- from any level on, the way up ends with the new keys up to the root
   climb : (i k : ℕ) → 1 ≤ k → k + i ≡ 8 → (ring : List NodeKey) → IsNewBelow k ring →
       ring_after_levels p.wrap (publishing_file s p) v (range_with_len k i) ring ≡ Ok (path_entries (new_keys s p) v)
   unfolding path_entries
@@ -145,6 +154,7 @@ module _ (s : State) (p : Publishing) (a : IsAcceptedPublishing s p) (v : ℕ) (
       ap (λ x. verdict_then x (ring_after_levels p.wrap (publishing_file s p) v (range_with_len (k + 1) i))) t.1.0
       ∙ climb i (k + 1) (omega arith) (omega arith) t.0 t.1.1
 
+  -- with the new key of its leaf, the player gets the new keys up to the root
   pub follow : ring_after_file p.wrap (publishing_file s p) v (new_keys s p v ∷ map had (range_with_len 1 7)) ≡ Ok (path_entries (new_keys s p) v)
   unfolding ring_after_file
   follow = climb 7 1 (omega arith) refl (new_keys s p v ∷ map had (range_with_len 1 7)) (record { size = refl; below = below; above = above })

@@ -16,6 +16,8 @@ file_answer kind L bs = value_or_fault (layout_fault kind L bs) tt
 
 module _ (kind L : ℕ) (bs : List ℕ) (epoch nodes : ℕ) where
   -- what each part answers, at the values that the parts before it gave
+
+  -- what the check of the head answers
   abbrev pub head_answer : Result (ℕ × ℕ) LayoutFault
   head_answer = value_or_fault {A = ℕ × ℕ} (fault_in bs (head_fields kind bs)) (be_number4 bs 3, byte_at bs 7)
 
@@ -38,6 +40,7 @@ module _ (kind L : ℕ) (bs : List ℕ) (epoch nodes : ℕ) where
       (option_or (fault_in bs (count_fields bs (8 + nodes)))
       (fault_in bs (wraps_fields L epoch (take nodes (drop 8 bs)) bs (10 + nodes) wraps)))
 
+  -- once the head is passed, the fault of what follows is the file's
   after_head : (wraps : ℕ) → head_answer ≡ Ok (epoch, nodes) → be_number2 bs (8 + nodes) ≡ wraps → fault_after_head wraps ≡ layout_fault kind L bs
   unfolding fault_after_head
   after_head wraps h w =
@@ -45,17 +48,22 @@ module _ (kind L : ℕ) (bs : List ℕ) (epoch nodes : ℕ) where
       goes_on _ _ _ _ _ h (at_values kind L bs epoch nodes wraps (ap (λ p. p.0) v) (ap (λ p. p.1) v) w)
 
   -- a part that is refused decides, after parts that are passed
+
+  -- where the head is refused, its fault is the file's
   pub head_stops : (y : LayoutFault) → head_answer ≡ Err y → Err y ≡ file_answer kind L bs
   head_stops y h = stopped _ _ _ _ _ h ∙ ap (λ o. value_or_fault o tt) (sym (at_values kind L bs _ _ _ refl refl refl))
 
+  -- where the nodes are refused after a head that is passed, their fault is the file's
   pub nodes_stop : (y : LayoutFault) → head_answer ≡ Ok (epoch, nodes) → nodes_answer ≡ Err y → Err y ≡ file_answer kind L bs
   unfolding fault_after_head
   nodes_stop y h n = stopped _ _ _ _ _ n ∙ ap (λ o. value_or_fault o tt) (after_head _ h refl)
 
+  -- where the number of wraps is the first part that is refused, its fault is the file's
   pub count_stops : (y : LayoutFault) → head_answer ≡ Ok (epoch, nodes) → nodes_answer ≡ Ok tt → count_answer ≡ Err y → Err y ≡ file_answer kind L bs
   unfolding fault_after_head
   count_stops y h n k = stopped _ _ _ _ _ k ∙ ap (λ o. value_or_fault o tt) (goes_on _ _ _ _ _ n (sym (after_head _ h refl)))
 
+  -- where all parts before them are passed, the wraps decide
   pub wraps_decide : (wraps : ℕ) → head_answer ≡ Ok (epoch, nodes) → nodes_answer ≡ Ok tt → count_answer ≡ Ok wraps → wraps_answer wraps ≡ file_answer kind L bs
   unfolding fault_after_head
   wraps_decide wraps h n k = ap (λ o. value_or_fault o tt) (goes_on _ _ _ _ _ k (sym (goes_on _ _ _ _ _ n (sym (after_head wraps h (passed _ _ _ k).1)))))
@@ -67,6 +75,7 @@ accepts kind L bs e =
     let head = faultless_head kind bs (none_both _ _ (sym (at_values kind L bs _ _ _ refl refl refl) ∙ e)).0 in
     ap (λ o. not (is_some o)) (ap (λ k. layout_fault k L bs) head.third ∙ e)
 
+-- where the check answers that there is no fault, the bytes are a rekey file
 pub accepts_if_ok : (kind L : ℕ) (bs : List ℕ) (r : Result (Unit {0}) LayoutFault) → r ≡ file_answer kind L bs → OnOk r (is_rekey_file L bs ≡ true)
 accepts_if_ok kind L bs (Ok u) e = accepts kind L bs (passed (layout_fault kind L bs) tt u (sym e)).0
 accepts_if_ok kind L bs (Err y) e = tt

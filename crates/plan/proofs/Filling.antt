@@ -7,6 +7,7 @@ use Rattle.tree.specs.declared.types.Code.TheVariants.{Empty}
 use Rattle.plan.specs.declared.bad.Bad.{Bad}
 use Rattle.plan.specs.Reading.{code_of_digit, codes_before, codes_with_first, codes_from}
 
+-- codes put before others in two parts are put before them all at once
 before_append : (xs ys : List Code) (r : Result (List Code) Bad) → codes_before (xs ++ ys) r ≡ codes_before xs (codes_before ys r)
 before_append xs ys (Ok codes) = ap Ok (append_assoc xs ys codes)
 before_append xs ys (Err bad) = refl
@@ -25,6 +26,7 @@ filled_next digits i row o h e f =
     ∙ sym (at_drop_more (λ ds. codes_before (take i row) (codes_from (i + 1) ds)) digits i 0 h)
     ∙ f.read
 
+-- with the code of the next digit set in its cradle, one digit more is read
 pub filled_more : (digits : List ℕ) (i : ℕ) (row : List Code) (code : Code) → i < length digits → length digits ≤ 128
     → code_of_digit (get_or digits i 0) ≡ Some code → IsFilled digits i row → IsFilled digits (i + 1) (set row i code)
 filled_more digits i row code h few e f =

@@ -11,18 +11,22 @@ use Rattle.player.specs.declared.any.Stored.{Stored}
 use Rattle.player.specs.declared.any.AnyPlayer.{AnyPlayer}
 use Rattle.player.specs.declared.any.AnyPlayer.TheVariants as any
 
+-- the numbers of a player in its ranges pass the test when they are stored
 passes_range : (state : ℕ) (s : PlayerNumbers) → IsInRange s.serial s.leaf s.epoch → is_in_range (with_state state s) ≡ true
 passes_range state s r = grind (arith, r.serial_range, r.leaf_range, r.epoch_range)
 
+-- what is stored of a wiped player is its serial and nothing else
 alone : (serial : ℕ) → IsSerial serial → is_serial_alone (store (any.Wiped serial)) ≡ true
 alone serial r = grind (arith, r)
 
+-- what is stored of a player is restored as that player
 back : (p : AnyPlayer) → IsPossible p → restore (store p) ≡ Some p
 back (any.Waiting s) r = ap (λ b. if b then Some (any.Waiting s) else None) (passes_range 1 s r)
 back (any.Seated s) r = ap (λ b. if b then Some (any.Seated s) else None) (passes_range 2 s r)
 back (any.Wiped serial) r = ap (λ b. if b then Some (any.Wiped serial) else None) (alone serial r)
 
 module _ (s : Stored) where
+  -- numbers that pass the test are in their ranges
   in_ranges : is_in_range s ≡ true → IsInRange s.serial s.leaf s.epoch
   in_ranges e = record { serial_range = (grind arith, grind arith); leaf_range = (grind arith, grind arith); epoch_range = (grind arith, grind arith) }
 
@@ -37,12 +41,15 @@ module _ (s : Stored) where
       ∙ ap (λ n. with_state state (player_numbers s.serial n s.epoch)) b
       ∙ ap (λ n. with_state state (player_numbers s.serial leaf n)) c
 
+  -- with state 1 and numbers in range, it was stored of a waiting player
   waiting_was : s.state ≡ 1 → is_in_range s ≡ true → IsStoredAs (any.Waiting (stored_numbers s))
   waiting_was is e = (by_parts 1 s.leaf s.epoch is refl refl, in_ranges e)
 
+  -- with state 2 and numbers in range, it was stored of a seated player
   seated_was : s.state ≡ 2 → is_in_range s ≡ true → IsStoredAs (any.Seated (stored_numbers s))
   seated_was is e = (by_parts 2 s.leaf s.epoch is refl refl, in_ranges e)
 
+  -- with state 3 and nothing but a serial, it was stored of a wiped player
   wiped_was : s.state ≡ 3 → is_serial_alone s ≡ true → IsStoredAs (any.Wiped s.serial)
   wiped_was is e = (by_parts 3 0 0 is (grind arith) (grind arith), (grind arith, grind arith))
 
@@ -50,6 +57,7 @@ module _ (s : Stored) where
   tested : (b : Bool) (q p : AnyPlayer) → (b ≡ true → IsStoredAs q) → (if b then Some q else None) ≡ Some p → IsStoredAs p
   tested b q p h e = let both = cond_some b q p e in subst IsStoredAs both.1 (h both.0)
 
+  -- whatever player is restored, this is what is stored of it
   was : (p : AnyPlayer) → restore s ≡ Some p → IsStoredAs p
   was p = cond_both _ _ _ Comes
       (λ one. tested (is_in_range s) (any.Waiting (stored_numbers s)) p (waiting_was (eqb-true s.state 1 one)))
@@ -62,5 +70,6 @@ module _ (s : Stored) where
       Comes : Option AnyPlayer → Type 0
       Comes o = o ≡ Some p → IsStoredAs p
 
+-- a stored player comes back, and nothing else is restored
 pub storing_laws : StoringLaws
 storing_laws = record { comes_back = back; nothing_else = was }

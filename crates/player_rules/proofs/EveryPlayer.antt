@@ -5,6 +5,7 @@ use Rattle.player_rules.proofs.Searches.{found_opens, found_first, none_opens}
 use Rattle.player_rules.proofs.Ways.{way_up, way_stops}
 use Rattle.player_rules.proofs.Refusals.{refused_keeps}
 
+-- all that holds of every player
 pub player_laws : PlayerLaws
 player_laws = record {
   found_opens = found_opens;

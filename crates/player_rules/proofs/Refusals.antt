@@ -22,6 +22,7 @@ read_left : (v : Verdict (List NodeKey)) (new old : Player) (ring : List ℕ) �
     (new_or_old v new old ≡ old) × (ring_or v ring ≡ ring)
 read_left v new old ring e = (old_left v new old e, ring_left v ring e)
 
+-- a refused call leaves player and ring as they were
 pub refused_keeps : (a : PlayerCall) (p : Player) (ring : List ℕ) → is_player_refused a p ring ≡ true →
     (player_after a p ring ≡ p) × (ring_after a p ring ≡ ring)
 refused_keeps (read w file work) (waiting s) ring e = read_left (read_verdict s.leaf s.epoch w file work ring) _ _ ring e

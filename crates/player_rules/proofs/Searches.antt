@@ -18,6 +18,7 @@ abbrev IsFirstPassing : (ℕ → Bool) → Option ℕ → Type 0
 IsFirstPassing test (Some k) = (k < 8) × (test k ≡ true)
 IsFirstPassing test None = (k : ℕ) → k < 8 → test k ≡ false
 
+-- the search among the eight entries finds one that passes, unless none does
 first : (test : ℕ → Bool) → IsFirstPassing test (position test (range_with_len 0 8))
 first test = go (position test (range_with_len 0 8)) refl
   where
@@ -38,6 +39,7 @@ module _ (ring : List NodeKey) (leaf node : ℕ) where
   IsEntryFor w (Some k) = (ws : List WrappedKey) → OpensAt (w ∷ ws) 0 k
   IsEntryFor w None = (ws : List WrappedKey) (k : ℕ) → OpensAt (w ∷ ws) 0 k → ⊥
 
+  -- the entry that is found for a wrap opens it, and if none is found, none opens it
   entry : (w : WrappedKey) → IsEntryFor w (entry_for ring leaf node w)
   unfolding entry_of
   entry w = here (eqb w.content node) refl
@@ -55,10 +57,12 @@ module _ (ring : List NodeKey) (leaf node : ℕ) where
       here true e = by (position test (range_with_len 0 8)) (eqb-true w.content node e) (first test)
       here false e = λ ws k o. eqb-false w.content node e o.content
 
+  -- with one wrap more in front, what opens has the next index
   one_on : (w : WrappedKey) (ws : List WrappedKey) (i k : ℕ) → OpensAt ws i k → OpensAt (w ∷ ws) (suc i) k
   one_on w ws i k o =
       record { in_file = omega (arith, o.in_file); in_ring = o.in_ring; content = o.content; opener_node = o.opener_node; opener_epoch = o.opener_epoch }
 
+  -- without the first wrap, what opens has the index before
   one_back : (w : WrappedKey) (ws : List WrappedKey) (i k : ℕ) → OpensAt (w ∷ ws) (suc i) k → OpensAt ws i k
   one_back w ws i k o =
       record { in_file = omega (arith, o.in_file); in_ring = o.in_ring; content = o.content; opener_node = o.opener_node; opener_epoch = o.opener_epoch }
@@ -68,6 +72,7 @@ module _ (ring : List NodeKey) (leaf node : ℕ) where
   IsFirstOpenable index ws (Some it) = (j : ℕ) × ((index + j ≡ it.wrap) × (OpensAt ws j it.entry × ((i k : ℕ) → OpensAt ws i k → j ≤ i)))
   IsFirstOpenable index ws None = (i k : ℕ) → OpensAt ws i k → ⊥
 
+  -- the search finds the first wrap that opens, or none does
   searched : (index : ℕ) (ws : List WrappedKey) → IsFirstOpenable index ws (openable_wrap ring leaf node index ws)
   searched index [] = λ i k o. omega (arith, o.in_file)
   searched index (w ∷ ws) = go (entry_for ring leaf node w) (entry w) (openable_wrap ring leaf node (index + 1) ws) (searched (index + 1) ws)
@@ -87,13 +92,16 @@ module _ (ring : List NodeKey) (leaf node : ℕ) where
           before (suc i) k o = omega (arith, s.1.1.1 i k (one_back w ws i k o))
 
   module _ (wraps : List WrappedKey) where
+    -- what the search finds opens
     pub found_opens : (it : OpenableWrap) → openable_wrap ring leaf node 0 wraps ≡ Some it → Opens ring leaf node wraps it.wrap it.entry
     found_opens it e =
         let f = subst (IsFirstOpenable 0 wraps) e (searched 0 wraps) in
         subst (λ (i : ℕ). OpensAt wraps i it.entry) (sym (zero-add f.0) ∙ f.1.0) f.1.1.0
 
+    -- no wrap before the one that is found opens
     pub found_first : (it : OpenableWrap) → openable_wrap ring leaf node 0 wraps ≡ Some it → (i k : ℕ) → Opens ring leaf node wraps i k → it.wrap ≤ i
     found_first it e i k o = let f = subst (IsFirstOpenable 0 wraps) e (searched 0 wraps) in omega (arith, f.1.0, f.1.1.1 i k o)
 
+    -- if the search finds none, none opens
     pub none_opens : openable_wrap ring leaf node 0 wraps ≡ None → (i k : ℕ) → Opens ring leaf node wraps i k → ⊥
     none_opens e = subst (IsFirstOpenable 0 wraps) e (searched 0 wraps)

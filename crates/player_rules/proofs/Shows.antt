@@ -26,13 +26,16 @@ module _ (keys : Keys) (leaf : ℕ) (l : IsLeaf leaf) (sized : (n : ℕ) → len
   abbrev key_at_level : ℕ → NodeKey
   key_at_level k = keys (ancestor k leaf)
 
+  -- each of these keys has 32 bytes
   at_sized : (ks : List ℕ) (e : NodeKey) → In e (map key_at_level ks) → length e.key ≡ 32
   at_sized ks e i = let r = in_map key_at_level ks e i in ap (λ (x : NodeKey). length x.key) r.1.1 ∙ sized (ancestor r.0 leaf)
 
+  -- a ring with the keys from the leaf to the root has 288 bytes
   path_long : length (ring_bytes (path_entries keys leaf)) ≡ 288
   unfolding path_entries
   path_long = ring_long (map key_at_level (range_with_len 0 8)) (at_sized (range_with_len 0 8))
 
+  -- such a ring shows the key of the root
   pub path_shows : show_verdict (ring_bytes (path_entries keys leaf)) ≡ Ok (keys 1).key
   unfolding path_entries
   path_shows =

@@ -26,6 +26,7 @@ use Rattle.player_rules.specs.Ways.{ring_so_far, IsRenewed, IsRingAtLevel, Stops
 contained : (nodes : List ℕ) (n : ℕ) → lists nodes n ≡ true → Contains nodes n
 contained nodes n e = in_contains nodes n (listed_in nodes n e)
 
+-- a node that is listed passes the test
 lists_contained : (nodes : List ℕ) (n : ℕ) → Contains nodes n → lists nodes n ≡ true
 lists_contained nodes n c = in_listed nodes n (contains_in nodes n c)
 
@@ -43,6 +44,7 @@ module _ (w : WrapMeaning) (f : Rekey) (leaf : ℕ) (old : List NodeKey) (eight 
   abbrev found_content : List NodeKey → OpenableWrap → Option (List ℕ)
   found_content ring it = wrap_content w f.epoch (keys_in ring it.entry).key (wrap_by_index f it.wrap)
 
+  -- before the first level above the leaf, the ring is the old one
   begin : IsRingAtLevel w f leaf old 1 old
   begin = record {
     size = refl;
@@ -61,15 +63,18 @@ module _ (w : WrapMeaning) (f : Rekey) (leaf : ℕ) (old : List NodeKey) (eight 
     is_so_far : ring ≡ ring_so_far k ring old
     is_so_far = sym (take-append-drop k ring) ∙ ap (λ r. take k ring ++ r) u.rest_stays
 
+    -- the entry of that level is still the old one
     entry_old : keys_in ring k ≡ keys_in old k
     entry_old =
         let here : k + 0 ≡ k = omega arith in
         ap (keys_in ring) (sym here)
         ∙ sym (get_or-drop k ring 0 unmade_key) ∙ ap (λ r. get_or r 0 unmade_key) u.rest_stays ∙ get_or-drop k old 0 unmade_key ∙ ap (keys_in old) here
 
+    -- the entries above that level are still the old ones
     rest_old : drop (k + 1) ring ≡ drop (k + 1) old
     rest_old = sym (drop-drop 1 k ring) ∙ ap (drop 1) u.rest_stays ∙ drop-drop 1 k old
 
+    -- a node that is not listed leaves the ring as it is, by the rule
     passed_over : (Contains f.nodes node → ⊥) → IsRingAtLevel w f leaf old (k + 1) ring
     passed_over un = record {
       size = u.size;
@@ -85,6 +90,7 @@ module _ (w : WrapMeaning) (f : Rekey) (leaf : ℕ) (old : List NodeKey) (eight 
       ];
     }
 
+    -- a listed node gets its new entry, by the rule
     renewed : Contains f.nodes node → (entry : NodeKey) → IsRenewed w f leaf k ring entry → IsRingAtLevel w f leaf old (k + 1) (set ring k entry)
     renewed is entry by =
         let here : keys_in (set ring k entry) k ≡ entry = get_or-set_same ring k entry unmade_key (omega (arith, u.size, eight)) in
@@ -124,6 +130,7 @@ module _ (w : WrapMeaning) (f : Rekey) (leaf : ℕ) (old : List NodeKey) (eight 
         search_gave (Some it) e = opening_gave it e (found_content ring it) refl
         search_gave None e = stops (refusal_with 19 (node ∷ [])) (inl (e, refl))
 
+    -- one level goes by the rule
     level_goes : Goes (k + 1) (ring_after_level w f leaf k ring)
     unfolding ring_after_level
     level_goes = elim (cases_Bool (lists f.nodes node)) [
@@ -131,6 +138,7 @@ module _ (w : WrapMeaning) (f : Rekey) (leaf : ℕ) (old : List NodeKey) (eight 
       | inr e ↦ subst (Goes (k + 1)) (sym (cond-false _ _ _ e)) (passed_over (λ i. both_ways (lists f.nodes node) e (lists_contained f.nodes node i)))
     ]
 
+  -- all levels from one on go by the rule
   climb_goes : (i k : ℕ) → 1 ≤ k → k + i ≡ 8 → (ring : List NodeKey) → IsRingAtLevel w f leaf old k ring →
       Goes 8 (ring_after_levels w f leaf (range_with_len k i) ring)
   climb_goes zero k l e ring u = subst (λ (m : ℕ). IsRingAtLevel w f leaf old m ring) (omega arith) u
@@ -145,12 +153,14 @@ module _ (w : WrapMeaning) (f : Rekey) (leaf : ℕ) (old : List NodeKey) (eight 
       on (Ok t) g more = more t g
       on (Err r) g more = g
 
+  -- the whole way up goes by the rule
   goes : Goes 8 (ring_after_file w f leaf old)
   unfolding ring_after_file
   goes = climb_goes 7 1 (omega arith) refl old begin
 
   -- The rule leaves no choice.
 
+  -- there is only one entry with which a node can be renewed
   one_entry : (k : ℕ) (ring : List NodeKey) (x y : NodeKey) → IsRenewed w f leaf k ring x → IsRenewed w f leaf k ring y → x ≡ y
   one_entry k ring x y a b =
       let it : a.it ≡ b.it = same_Some _ _ (sym a.is_first ∙ b.is_first) in
@@ -160,9 +170,11 @@ module _ (w : WrapMeaning) (f : Rekey) (leaf : ℕ) (old : List NodeKey) (eight 
 
   -- two ways up have the same entries as far as both go
   module _ (i j : ℕ) (a b : List NodeKey) (u : IsRingAtLevel w f leaf old i a) (v : IsRingAtLevel w f leaf old j b) where
+    -- two rings that are the same below a level are the same updated so far
     same_so_far : (m : ℕ) → take m a ≡ take m b → ring_so_far m a old ≡ ring_so_far m b old
     same_so_far m t = ap (λ r. r ++ drop m old) t
 
+    -- where both are the same below a level, both have the same entry there
     entry_same : (m : ℕ) → m < i → m < j → take m a ≡ take m b → keys_in a m ≡ keys_in b m
     entry_same zero p q t = u.leaf_stays ∙ sym v.leaf_stays
     entry_same (suc m) p q t = elim (cases_Bool (lists f.nodes (ancestor (suc m) leaf))) [
@@ -177,6 +189,7 @@ module _ (w : WrapMeaning) (f : Rekey) (leaf : ℕ) (old : List NodeKey) (eight 
           u.unlisted_stays (suc m) (omega arith) p un ∙ sym (v.unlisted_stays (suc m) (omega arith) q un)
     ]
 
+    -- both have the same entries below each level that both reach
     entries_same : (m : ℕ) → m ≤ i → m ≤ j → m ≤ 8 → take m a ≡ take m b
     entries_same zero p q r = refl
     entries_same (suc m) p q r =
@@ -185,6 +198,7 @@ module _ (w : WrapMeaning) (f : Rekey) (leaf : ℕ) (old : List NodeKey) (eight 
         ∙ ap₂ (λ x e. x ++ (e ∷ [])) t (entry_same m (omega arith) (omega arith) t)
         ∙ sym (take-suc b m unmade_key (omega (arith, v.size, eight)))
 
+  -- there is only one ring at the end of the way up
   one_way : (a b : List NodeKey) → IsRingAtLevel w f leaf old 8 a → IsRingAtLevel w f leaf old 8 b → a ≡ b
   one_way a b u v =
       sym (take_all 8 a (omega (arith, u.size, eight)))
@@ -197,6 +211,7 @@ module _ (w : WrapMeaning) (f : Rekey) (leaf : ℕ) (old : List NodeKey) (eight 
       let it : a.it ≡ d.it = same_Some _ _ (sym a.is_first ∙ d.is_first) in
       none-some _ (sym d.unopened ∙ sym (ap (found_content ring) it) ∙ a.content)
 
+  -- there is only one refusal with which the way up can stop at a node
   one_why : (n : ℕ) (ring : List NodeKey) (r q : Refusal) → StopsAt n ring r → StopsAt n ring q → r ≡ q
   one_why n ring r q (inl a) (inl b) = a.1 ∙ sym b.1
   one_why n ring r q (inl a) (inr b) = absurd (none-some _ (sym a.0 ∙ b.is_first))
@@ -213,6 +228,7 @@ module _ (w : WrapMeaning) (f : Rekey) (leaf : ℕ) (old : List NodeKey) (eight 
       goes_on s.level s.ring (keys_in new s.level) r
       (subst (λ x. IsRenewed w f leaf s.level x (keys_in new s.level)) here (u.listed_renewed s.level s.on_the_way.0 l s.is_listed)) s.why
 
+  -- there is only one refusal with which the way up can stop
   one_stop : (r q : Refusal) → Stops w f leaf old r → Stops w f leaf old q → r ≡ q
   one_stop r q s t = elim (cases_lt s.level t.level) [
     | inl l ↦ absurd (not_beyond t.level t.ring r t.until_then s l)
@@ -231,6 +247,7 @@ module _ (w : WrapMeaning) (f : Rekey) (leaf : ℕ) (old : List NodeKey) (eight 
     ]
   ]
 
+  -- the way up ends with a ring exactly if the rule gives that ring
   pub way_up : (new : List NodeKey) → (ring_after_file w f leaf old ≡ Ok new) ↔ IsRingAtLevel w f leaf old 8 new
   way_up new = (λ e. subst (Goes 8) e goes, λ u. back u (ring_after_file w f leaf old) goes)
     where
@@ -238,6 +255,7 @@ module _ (w : WrapMeaning) (f : Rekey) (leaf : ℕ) (old : List NodeKey) (eight 
       back u (Ok t) g = ap Ok (one_way t new g u)
       back u (Err r) s = absurd (not_beyond 8 new r u s s.on_the_way.1)
 
+  -- the way up is refused exactly where the rule stops it
   pub way_stops : (r : Refusal) → (ring_after_file w f leaf old ≡ Err r) ↔ Stops w f leaf old r
   way_stops r = (λ e. subst (Goes 8) e goes, λ s. back s (ring_after_file w f leaf old) goes)
     where

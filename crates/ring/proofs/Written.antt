@@ -13,6 +13,7 @@ module _ (entries : List NodeKey) (s : List ℕ) where
   pub front : ℕ → List ℕ
   front k = ring_bytes (take k entries) ++ drop (36 * k) s
 
+  -- before the first entry nothing is written
   pub front_none : s ≡ front 0
   unfolding front
   front_none = refl
@@ -32,6 +33,7 @@ module _ (entries : List NodeKey) (s : List ℕ) where
       ∙ ap₂ (λ (l : List ℕ) (n : ℕ). l ++ drop n s)
       (append_assoc P (be_bytes4 it.made) it.key ∙ flat_map_more entry_bytes [] (take k entries) it ∙ ap ring_bytes (sym (take_more entries k d h))) end
 
+  -- once all entries are written, the bytes are those of the ring
   pub front_all : (k : ℕ) → length s ≡ 36 * length entries → length entries ≤ k → front k ≡ ring_bytes entries
   unfolding front
   front_all k room h =

@@ -9,6 +9,7 @@ abbrev pub HasNoRepeats : List ℕ → Type 0
 HasNoRepeats [] = Unit {0}
 HasNoRepeats (x ∷ xs) = (In x xs → ⊥) × HasNoRepeats xs
 
+-- two such lists with nothing in common, one behind the other, are such a list
 pub distinct_append : (xs ys : List ℕ) → HasNoRepeats xs → HasNoRepeats ys → ((x : ℕ) → In x xs → In x ys → ⊥) → HasNoRepeats (xs ++ ys)
 distinct_append [] ys dx dy apart = dy
 distinct_append (x ∷ xs) ys dx dy apart = (
@@ -16,6 +17,7 @@ distinct_append (x ∷ xs) ys dx dy apart = (
   distinct_append xs ys dx.1 dy (λ z i j. apart z (inr i) j),
 )
 
+-- what a test keeps of such a list is such a list
 pub distinct_kept : (test : ℕ → Bool) (xs : List ℕ) → HasNoRepeats xs → HasNoRepeats (filter test xs)
 distinct_kept test [] d = tt
 distinct_kept test (x ∷ xs) d = go (test x) (distinct_kept test xs d.1)
@@ -24,15 +26,18 @@ distinct_kept test (x ∷ xs) d = go (test x) (distinct_kept test xs d.1)
     go true r = ((λ h. d.0 (in_kept test xs x h).0), r)
     go false r = r
 
+-- numbers that count up do not repeat
 pub distinct_counting : (a n : ℕ) → HasNoRepeats (range_with_len a n)
 distinct_counting a zero = tt
 distinct_counting a (suc n) = ((λ h. omega (arith, (in_counting (a + 1) n a h).0)), distinct_counting (a + 1) n)
 
+-- the numbers that count down from k are from 1 to k
 pub in_falling : (k i : ℕ) → In i (countdown k) → (0 < i) × (i ≤ k)
 in_falling zero i h = absurd h
 in_falling (suc k) i (inl e) = (omega arith, omega arith)
 in_falling (suc k) i (inr h) = let r = in_falling k i h in (r.0, omega arith)
 
+-- numbers that count down do not repeat
 pub distinct_falling : (k : ℕ) → HasNoRepeats (countdown k)
 distinct_falling zero = tt
 distinct_falling (suc k) = ((λ h. omega (arith, (in_falling k (suc k) h).1)), distinct_falling k)

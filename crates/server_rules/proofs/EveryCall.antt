@@ -7,6 +7,7 @@ use Rattle.server_rules.proofs.Sounds.{new_sound, after_sound}
 use Rattle.server_rules.proofs.FilesSound.{file_sound}
 use Rattle.server_rules.specs.Laws.{StateLaws}
 
+-- all that holds of every server
 pub state_laws : StateLaws
 state_laws = record {
   new_sound = new_sound;

@@ -50,6 +50,7 @@ module _ (s : State) (material : List ℕ) (sound : IsSoundServer s) (then : IsS
   abbrev next_state : State
   next_state = server_of_next_epoch s material
 
+  -- an occupied node has a key after the change, made by the new epoch
   present_made : (n : ℕ) → is_occupied (row s) n ≡ true → (1 ≤ (keys_in next_state.nodes n).made) × ((keys_in next_state.nodes n).made ≤ s.epoch + 1)
   unfolding is_occupied
   present_made n e =
@@ -59,6 +60,7 @@ module _ (s : State) (material : List ℕ) (sound : IsSoundServer s) (then : IsS
       let made = then.seated_leaves c.0 k.0 c.1.0 (ap occupant (carried s material sound c.0) ∙ carried_seated (cradle s c.0) ∙ k.1) in
       (made_above next_state (leaf_of c.0) n then o c.1.1.0 made, made_by_now next_state n then o)
 
+  -- a node at or above a leaf that stays had a key before the change, of an earlier epoch
   former_made : (n : ℕ) → stands_within is_stay_code (row s) n ≡ true → (1 ≤ (keys_in s.nodes n).made) × ((keys_in s.nodes n).made < s.epoch + 1)
   former_made n e =
       let o = standing_node s is_stay_code n e in
@@ -66,6 +68,7 @@ module _ (s : State) (material : List ℕ) (sound : IsSoundServer s) (then : IsS
       let k = stays_seated (cradle s c.0) c.1.1.1 in
       (made_above s (leaf_of c.0) n sound o c.1.1.0 (sound.seated_leaves c.0 k.0 c.1.0 k.1), omega (arith, made_by_now s n sound o))
 
+  -- all keys before and after the change were made in time
   timely : IsTimely (row s) (s.epoch + 1) (keys_in s.nodes) (keys_in next_state.nodes)
   timely = record {
     former_keys = λ n l. sound.keys_sized n;

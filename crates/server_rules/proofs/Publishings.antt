@@ -58,6 +58,7 @@ module _ (s : State) (material : List ℕ) (sound : IsSoundServer s) where
   kept : (n : ℕ) → is_changed (row s) n ≡ false → (IsLeaf n → is_change_code (code_at (row s) n) ≡ false) → keys_in next_state.nodes n ≡ keys_in s.nodes n
   kept n c f = change.others_kept n c (λ l. still (code_at (row s) n) (f l))
 
+  -- the leaf of a cradle where nobody moves keeps its key
   leaf_kept : (c : ℕ) → IsCradle c →
       is_change_code (cradle_code (cradle s c)) ≡ false → keys_in next_state.nodes (leaf_of c) ≡ keys_in s.nodes (leaf_of c)
   leaf_kept c h e = kept (leaf_of c)
@@ -96,6 +97,7 @@ module _ (s : State) (material : List ℕ) (sound : IsSoundServer s) where
   pub carried : (c : ℕ) → cradle next_state c ≡ after_change (cradle s c)
   carried c = get_or-map after_change s.cradles (c - 1) Empty
 
+  -- the leaf of a cradle that is empty from then on has no key
   empty_leaf : (c : ℕ) → IsCradle c → (k : Cradle) → cradle s c ≡ k → occupant (after_change k) ≡ None → keys_in next_state.nodes (leaf_of c) ≡ unmade_key
   empty_leaf c h Empty e n = leaf_kept c h (ap (λ k. is_change_code (cradle_code k)) e) ∙ sound.empty_leaves c h (ap occupant e)
   empty_leaf c h (Stays x) e n = absurd (none-some x (sym n))
@@ -103,6 +105,7 @@ module _ (s : State) (material : List ℕ) (sound : IsSoundServer s) where
   empty_leaf c h (Departs x) e n = change.emptied_none (leaf_of c) (leaf_is c h) (ap is_emptied (code_at_leaf s c h ∙ ap cradle_code e))
   empty_leaf c h (Swaps x y) e n = absurd (none-some y (sym n))
 
+  -- the leaf of a cradle that is occupied from then on has a key
   seated_leaf : (c x : ℕ) → IsCradle c → (k : Cradle) → cradle s c ≡ k → occupant (after_change k) ≡ Some x → 1 ≤ (keys_in next_state.nodes (leaf_of c)).made
   seated_leaf c x h Empty e n = absurd (none-some x n)
   seated_leaf c x h (Stays y) e n =
@@ -111,6 +114,7 @@ module _ (s : State) (material : List ℕ) (sound : IsSoundServer s) where
   seated_leaf c x h (Departs y) e n = absurd (none-some x n)
   seated_leaf c x h (Swaps y z) e n = omega (arith, change.arrival_new (leaf_of c) (leaf_is c h) (ap has_arrival (code_at_leaf s c h ∙ ap cradle_code e)))
 
+  -- after a publishing of something noted the server is sound
   pub publish_sound : has_notes s ≡ true → s.epoch < LAST_EPOCH → IsBytes material → drawn_size (row s) ≤ length material → IsSoundServer next_state
   publish_sound some room b long = record {
     cradle_count = length-map s.cradles after_change ∙ sound.cradle_count;

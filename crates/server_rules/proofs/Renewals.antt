@@ -19,6 +19,7 @@ use Rattle.cradles.specs.Draws.{keys_after_change}
 use Rattle.server_rules.specs.Laws.{IsRenewal}
 use Rattle.server_rules.proofs.Distinct.{HasNoRepeats, distinct_append, distinct_kept, distinct_counting, distinct_falling}
 
+-- the key of a node that has none is 32 bytes
 pub unmade_sized : IsSized 32 unmade_key.key
 unmade_sized = (length-replicate {A = ℕ} 32 0, replicate_bytes 32 0 (lit< tt))
 
@@ -42,6 +43,7 @@ held_set P t u n k new old = elim (cases_eq n u) [
 
 -- Nodes that are emptied.
 
+-- the table stays as long
 emptied_length : (us : List ℕ) (t : List NodeKey) → length (keys_without us t) ≡ length t
 emptied_length [] t = refl
 emptied_length (u ∷ us) t = emptied_length us (set t u unmade_key) ∙ length-set t u unmade_key
@@ -51,10 +53,12 @@ emptied_all : (P : NodeKey → Type 0) (us : List ℕ) (t : List NodeKey) (n : �
 emptied_all P [] t n none old = old
 emptied_all P (u ∷ us) t n none old = emptied_all P us (set t u unmade_key) n none (held_set P t u n unmade_key (λ e l. none) old)
 
+-- a node that is not among them keeps its key
 emptied_others : (us : List ℕ) (t : List NodeKey) (n : ℕ) → (In n us → ⊥) → keys_in (keys_without us t) n ≡ keys_in t n
 emptied_others [] t n out = refl
 emptied_others (u ∷ us) t n out = emptied_others us (set t u unmade_key) n (λ i. out (inr i)) ∙ get_or-set_other t u n unmade_key unmade_key (λ e. out (inl e))
 
+-- a node that is among them has no key from then on
 emptied_here : (us : List ℕ) (t : List NodeKey) (n : ℕ) → In n us → n < length t → keys_in (keys_without us t) n ≡ unmade_key
 emptied_here [] t n h l = absurd h
 emptied_here (u ∷ us) t n (inl e) l =
@@ -64,10 +68,12 @@ emptied_here (u ∷ us) t n (inr h) l = emptied_here us (set t u unmade_key) n h
 
 -- Nodes that are dealt keys.
 
+-- the table stays as long
 dealt_length : (epoch : ℕ) (ns m : List ℕ) (t : List NodeKey) → length (keys_with_draws epoch ns m t) ≡ length t
 dealt_length epoch [] m t = refl
 dealt_length epoch (n ∷ ns) m t = dealt_length epoch ns (drop 32 m) (set t n (drawn_key epoch m)) ∙ length-set t n (drawn_key epoch m)
 
+-- a node that is not among them keeps its key
 dealt_others : (epoch : ℕ) (ns m : List ℕ) (t : List NodeKey) (n : ℕ) → (In n ns → ⊥) → keys_in (keys_with_draws epoch ns m t) n ≡ keys_in t n
 dealt_others epoch [] m t n out = refl
 dealt_others epoch (u ∷ ns) m t n out =
@@ -81,6 +87,7 @@ dealt_all P epoch [] m t n new old = old
 dealt_all P epoch (u ∷ ns) m t n new old =
     dealt_all P epoch ns (drop 32 m) (set t u (drawn_key epoch m)) n new (held_set P t u n (drawn_key epoch m) (λ e l. new m) old)
 
+-- a node that is among them has a key of that epoch
 dealt_made : (epoch : ℕ) (ns m : List ℕ) (t : List NodeKey) (n : ℕ) → In n ns → n < length t → (keys_in (keys_with_draws epoch ns m t) n).made ≡ epoch
 dealt_made epoch [] m t n h l = absurd h
 dealt_made epoch (u ∷ ns) m t n (inl e) l =
@@ -129,44 +136,54 @@ joins_is Departs j = absurd (false≢true j)
 joins_is Swaps j = (refl, refl)
 
 module _ (row : List Code) where
+  -- the leaf of who arrives is in the list of arrivals
   arrival_in : (u : ℕ) → IsLeaf u → has_arrival (code_at row u) ≡ true → In u (arrival_leaves row)
   unfolding arrival_leaves tree_leaves
   arrival_in u l e = kept_in (λ v. has_arrival (code_at row v)) (range_with_len 128 128) u (counting_in 128 128 u l.0 l.1) e
 
+  -- in that list are only leaves of who arrives
   in_arrivals : (u : ℕ) → In u (arrival_leaves row) → IsLeaf u × (has_arrival (code_at row u) ≡ true)
   unfolding arrival_leaves tree_leaves
   in_arrivals u h = let r = in_kept (λ v. has_arrival (code_at row v)) (range_with_len 128 128) u h in (in_counting 128 128 u r.0, r.1)
 
+  -- a leaf that is emptied is in the list of those
   emptied_in : (u : ℕ) → IsLeaf u → is_emptied (code_at row u) ≡ true → In u (emptied_leaves row)
   unfolding emptied_leaves tree_leaves
   emptied_in u l e = kept_in (λ v. is_emptied (code_at row v)) (range_with_len 128 128) u (counting_in 128 128 u l.0 l.1) e
 
+  -- in that list are only leaves that are emptied
   in_emptied : (u : ℕ) → In u (emptied_leaves row) → IsLeaf u × (is_emptied (code_at row u) ≡ true)
   unfolding emptied_leaves tree_leaves
   in_emptied u h = let r = in_kept (λ v. is_emptied (code_at row v)) (range_with_len 128 128) u h in (in_counting 128 128 u r.0, r.1)
 
+  -- a node that is changed receives a key
   changed_receives : (n : ℕ) → is_changed row n ≡ true → In n (receivers row)
   changed_receives n e = in_right (arrival_leaves row) (changed_nodes row) n (changed_in row n e)
 
+  -- the leaf of who arrives receives a key
   arrival_receives : (u : ℕ) → IsLeaf u → has_arrival (code_at row u) ≡ true → In u (receivers row)
   arrival_receives u l e = in_left (arrival_leaves row) (changed_nodes row) u (arrival_in u l e)
 
+  -- only leaves of who arrives and changed nodes receive a key
   receives : (n : ℕ) → In n (receivers row) → (IsLeaf n × (has_arrival (code_at row n) ≡ true)) ⊎ (is_changed row n ≡ true)
   receives n h = elim (in_append (arrival_leaves row) (changed_nodes row) n h) [
     | inl i ↦ inl (in_arrivals n i)
     | inr j ↦ inr (in_changed row n j)
   ]
 
+  -- who receives a key is a node of the tree
   receiver_low : (n : ℕ) → In n (receivers row) → n < 256
   receiver_low n h = elim (receives n h) [
     | inl a ↦ a.0.1
     | inr c ↦ omega (arith, changed_inner row n c)
   ]
 
+  -- no leaf is twice in the list of arrivals
   distinct_arrivals : HasNoRepeats (arrival_leaves row)
   unfolding arrival_leaves tree_leaves
   distinct_arrivals = distinct_kept (λ u. has_arrival (code_at row u)) (range_with_len 128 128) (distinct_counting 128 128)
 
+  -- no node is twice in the list of those that are changed
   distinct_changed : HasNoRepeats (changed_nodes row)
   unfolding changed_nodes inner_nodes
   distinct_changed = distinct_kept (is_changed row) (countdown 127) (distinct_falling 127)
@@ -181,6 +198,7 @@ module _ (row : List Code) where
     abbrev keys_left : List NodeKey
     keys_left = keys_without (emptied_leaves row) t
 
+    -- the table stays as long
     pub renewed_length : length (keys_after_change epoch row m t) ≡ length t
     renewed_length = dealt_length epoch (receivers row) m keys_left ∙ emptied_length (emptied_leaves row) t
 
@@ -189,20 +207,25 @@ module _ (row : List Code) where
         P (keys_in (keys_after_change epoch row m t) n)
     renewed_all P n none new old = dealt_all P epoch (receivers row) m keys_left n new (emptied_all P (emptied_leaves row) t n none old)
 
+    -- a node that receives no key and is not emptied keeps its key
     renewed_others : (n : ℕ) → (In n (receivers row) → ⊥) → (In n (emptied_leaves row) → ⊥) → keys_in (keys_after_change epoch row m t) n ≡ keys_in t n
     renewed_others n r e = dealt_others epoch (receivers row) m keys_left n r ∙ emptied_others (emptied_leaves row) t n e
 
+    -- a leaf that is emptied has no key from then on
     renewed_none : (u : ℕ) → u < length t → (In u (receivers row) → ⊥) → In u (emptied_leaves row) → keys_in (keys_after_change epoch row m t) u ≡ unmade_key
     renewed_none u l r h = dealt_others epoch (receivers row) m keys_left u r ∙ emptied_here (emptied_leaves row) t u h l
 
+    -- a node that receives a key has one of the new epoch
     renewed_made : (n : ℕ) → n < length t → In n (receivers row) → (keys_in (keys_after_change epoch row m t) n).made ≡ epoch
     renewed_made n l h = dealt_made epoch (receivers row) m keys_left n h (omega (arith, emptied_length (emptied_leaves row) t))
 
+    -- with material enough, every key has 32 bytes
     pub renewed_sized : IsBytes m → drawn_size row ≤ length m →
         ((n : ℕ) → IsSized 32 (keys_in t n).key) → (n : ℕ) → IsSized 32 (keys_in (keys_after_change epoch row m t) n).key
     renewed_sized b l s n =
         dealt_sized epoch (receivers row) m keys_left n b l (emptied_all (λ k. IsSized 32 k.key) (emptied_leaves row) t n unmade_sized (s n))
 
+    -- the keys after the change are those that the rule of renewals asks for
     pub renewal : length t ≡ 256 → IsRenewal epoch row m (keys_in t) (keys_in (keys_after_change epoch row m t))
     renewal size = record {
       changed_new = λ n c. renewed_made n (omega (arith, changed_inner row n c)) (changed_receives n c);

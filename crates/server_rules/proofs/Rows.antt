@@ -36,6 +36,7 @@ within_root (suc k) n o h = elim (cases_eq n 1) [
   | inr x ↦ within_trans n (n / 2) 1 (1, refl) (within_root k (n / 2) (omega arith) (omega arith))
 ]
 
+-- the root is above every node
 pub root_above : (n : ℕ) → 0 < n → IsWithin n 1
 root_above n o = within_root n n o (omega arith)
 

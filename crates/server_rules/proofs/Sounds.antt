@@ -28,17 +28,21 @@ use Rattle.server_rules.proofs.Verdicts.{left_either, admit_passed, plan_passed,
 
 -- A new server.
 
+-- at each place of a list of copies, also past its end, stands the same
 replicated : {A : Type 0} (n i : ℕ) (x : A) → get_or (replicate n x) i x ≡ x
 replicated zero i x = refl
 replicated (suc n) zero x = refl
 replicated (suc n) (suc i) x = replicated n i x
 
+-- no node of a new server has a key
 never_made : (n : ℕ) → keys_in new_state.nodes n ≡ unmade_key
 never_made n = replicated 256 n unmade_key
 
+-- every cradle of a new server is empty
 all_empty : (c : ℕ) → cradle new_state c ≡ Empty
 all_empty c = replicated CRADLES (c - 1) Empty
 
+-- a new server is sound
 pub new_sound : IsSoundServer new_state
 new_sound = record {
   cradle_count = length-replicate CRADLES Empty;
@@ -59,6 +63,7 @@ new_sound = record {
 abbrev HasHoldersApart : State → Type 0
 HasHoldersApart s = (c d x : ℕ) → IsCradle c → IsCradle d → holder (cradle s c) ≡ Some x → holder (cradle s d) ≡ Some x → c ≡ d
 
+-- other notes keep a server sound, if nobody moves and no serial holds two cradles
 noting_sound : (s : State) (cs : List Cradle) → IsSoundServer s → length cs ≡ CRADLES →
     ((c : ℕ) → IsCradle c → occupant (cradle (with_cradles s cs) c) ≡ occupant (cradle s c)) →
     HasHoldersApart (with_cradles s cs) → IsSoundServer (with_cradles s cs)
@@ -90,13 +95,16 @@ drop_sound s sound = noting_sound s (map without_notes s.cradles) sound (length-
 -- One cradle with another note.
 
 module _ (s : State) (sound : IsSoundServer s) (c : ℕ) (it : Cradle) where
+  -- that cradle is the new one
   at_same : (d : ℕ) → IsCradle d → d ≡ c → cradle (with_cradle s c it) d ≡ it
   at_same d h e =
       ap (λ i. get_or (set s.cradles (i - 1) it) (d - 1) Empty) (sym e) ∙ get_or-set_same s.cradles (d - 1) it Empty (omega (arith, sound.cradle_count))
 
+  -- every other cradle is as before
   at_other : (d : ℕ) → IsCradle d → 1 ≤ c → (d ≡ c → ⊥) → cradle (with_cradle s c it) d ≡ cradle s d
   at_other d h o x = get_or-set_other s.cradles (c - 1) (d - 1) it Empty (λ e. x (omega arith))
 
+  -- the server stays sound, if the same scanner sits there and no serial holds two cradles
   one_sound : 1 ≤ c → occupant it ≡ occupant (cradle s c) → HasHoldersApart (with_cradle s c it) → IsSoundServer (with_cradle s c it)
   one_sound o same apart = noting_sound s (set s.cradles (c - 1) it) sound (length-set s.cradles (c - 1) it ∙ sound.cradle_count) seat apart
     where
@@ -108,6 +116,7 @@ module _ (s : State) (sound : IsSoundServer s) (c : ℕ) (it : Cradle) where
 
 -- A departure that is noted.
 
+-- with a departure noted the server stays sound
 left_sound : (s : State) (i : Option ℕ) → IsSoundServer s → IsSoundServer (with_departure_at s i)
 left_sound s None sound = sound
 left_sound s (Some i) sound = one_sound s sound (i + 1) it (omega arith) (departure_seated (cradle s (i + 1)))
@@ -124,12 +133,14 @@ left_sound s (Some i) sound = one_sound s sound (i + 1) it (omega arith) (depart
 
 -- An arrival that is noted.
 
+-- who is not found holds no cradle
 not_held : (s : State) (x c : ℕ) → IsSoundServer s → IsCradle c → held_cradle_index x s ≡ None → holder (cradle s c) ≡ Some x → ⊥
 not_held s x c sound h e q =
     both_ways (is_that_serial x (holder (cradle s c)))
     (none_passes (λ k. is_that_serial x (holder k)) s.cradles (c - 1) Empty e (omega (arith, sound.cradle_count)))
     (ap (is_that_serial x) q ∙ eq-eqb x x refl)
 
+-- with an arrival noted, of who holds no cradle in one that nobody holds, the server stays sound
 admitted_sound : (s : State) (x c : ℕ) → IsSoundServer s → 1 ≤ c →
     held_cradle_index x s ≡ None → holder (cradle s c) ≡ None → IsSoundServer (server_with_arrival s x c)
 admitted_sound s x c sound o out free = one_sound s sound c it o (arrival_seated (cradle s c) x) apart
@@ -162,6 +173,7 @@ admitted_sound s x c sound o out free = one_sound s sound c it o (arrival_seated
 
 -- Every call, accepted or refused.
 
+-- any call that is given lawfully leaves a sound server sound
 pub after_sound : (s : State) (c : Call) → IsGivenLawfully c → IsSoundServer s → IsSoundServer (server_after s c)
 after_sound s (admit x c) g sound = left_either IsSoundServer (admit_verdict s x c) (server_with_arrival s x c) s
     (λ a e. let h = admit_passed s x c e in admitted_sound s x c sound h.0.0 h.1.0 h.1.1) sound

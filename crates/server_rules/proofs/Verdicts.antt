@@ -22,6 +22,7 @@ module _ {A : Type 0} where
   pub refused_done : (f : Refusal) (a : A) → Err f ≡ Ok a → ⊥
   refused_done f a e = false≢true (sym (ap is_err e))
 
+  -- if the answer is no refusal, the check did not trip
   pub passed : (b : Bool) (f : Refusal) (next : Verdict A) (a : A) → cond b (Err f) next ≡ Ok a → (b ≡ false) × (next ≡ Ok a)
   passed true f next a e = absurd (refused_done f a e)
   passed false f next a e = (refl, e)
@@ -40,6 +41,7 @@ module _ {A : Type 0} where
 cradled_is : (c : ℕ) → is_cradle c ≡ true → IsCradle c
 cradled_is c e = in_range 1 CRADLES c e
 
+-- where it is accepted, both searches found nothing
 free_passed : (i y : Option ℕ) → admit_free_verdict i y ≡ Ok tt → (i ≡ None) × (y ≡ None)
 free_passed None None e = (refl, refl)
 free_passed None (Some y) e = absurd (refused_done (refusal_with 4 (y ∷ [])) tt e)

@@ -13,12 +13,14 @@ pub end_added : (s d ys : List ℕ) → ys ≡ xors (take (length s - (length s 
 unfolding xorend
 end_added s d ys e = tail_added (length s - 16) s d ys e
 
+-- a block added to the end leaves the length
 pub xorend_length : (s d : List ℕ) → length (xorend s d) ≡ length s
 unfolding xorend
 xorend_length s d =
     let n = length s - 16 in
     length-append (take n s) (xors (drop n s) d) ∙ omega (arith, xors_length (drop n s) d, length-drop n s, length-take-le n s (omega arith))
 
+-- a block that is added to the end twice is gone
 xorend_xorend : (s d : List ℕ) → xorend (xorend s d) d ≡ s
 unfolding xorend
 xorend_xorend s d =

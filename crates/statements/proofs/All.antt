@@ -6,6 +6,7 @@ use Rattle.statements.proofs.Worked.{examples}
 use Rattle.statements.proofs.Serving.{server_examples}
 use Rattle.statements.proofs.Run.{run_examples}
 
+-- all worked examples hold
 pub worked_examples : WorkedExamplesHold
 worked_examples = record {
   s_box_of_00 = box_examples.0;

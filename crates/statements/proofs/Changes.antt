@@ -45,6 +45,7 @@ module _ (calls : List Call) (ready : IsReady calls) where
   abbrev s : State
   s = server_of calls
 
+  -- it is sound
   pub sound : IsSoundServer s
   sound = (every_run calls ready.given).sound
 
@@ -58,6 +59,7 @@ module _ (calls : List Call) (ready : IsReady calls) where
       (returned p.wrap.length (publishing_file s p) (file_sound s p g sound e)).size
       ∙ ap (file_size p.wrap.length (length (changed_nodes (row s)))) (length-map (publishing_plan s p) _)
 
+  -- the length of a file by the codes of the row, a rule and the length of a wrap
   pub by_row : {rule : Rule} {L : ℕ} {codes : List Code} (p : Publishing) → IsAmpleBy rule L p → row s ≡ codes →
       byte_count p calls ≡ file_size L (length (changed_nodes codes)) (length (plan rule codes))
   by_row {rule} {L} p a e =
@@ -65,6 +67,7 @@ module _ (calls : List Call) (ready : IsReady calls) where
       ∙ ap₂ (λ (n : ℕ) (f : StrategyMeaning). file_size n (length (changed_nodes (row s))) (length (f (row s)))) a.wrap_length a.strategy
       ∙ ap (λ (r : List Code). file_size L (length (changed_nodes r)) (length (plan rule r))) e
 
+-- the first change can be published
 pub first_ready : IsReady first_change
 first_ready = record { given = (tt, tt); noted = refl; early = lit< tt }
 
@@ -73,26 +76,33 @@ abbrev first_published : Publishing → State
 first_published p = server_of_next_epoch (server_of first_change) p.material
 
 module _ (p : Publishing) (a : IsAmple p) where
+  -- an ample publishing of the first change leads there
   server-first : server_of (publish p ∷ first_change) ≡ first_published p
   server-first = server-publish first_change first_ready p a
 
+  -- before the second change is published, an arrival at cradle 2 is noted
   second_server : server_of (second_change p) ≡ server_after (first_published p) (admit 1002 2)
   second_server = ap (λ s. server_after s (admit 1002 2)) server-first
 
+  -- in the second change cradle 1 stays, and cradle 2 is filled
   pub second_row : row (server_of (second_change p)) ≡ padded_row (Stays ∷ Arrives ∷ [])
   unfolding padded_row
   second_row = ap row second_server
 
+  -- the second change can be published
   pub second_ready : IsReady (second_change p)
   second_ready = ready_by (second_change p) _ (tt, (a.given, (tt, tt))) second_server refl (lit< tt)
 
+  -- before the last member's departure is published, it is noted
   pub last_server : server_of (last_change p) ≡ server_after (first_published p) (remove 1001)
   last_server = ap (λ s. server_after s (remove 1001)) server-first
 
+  -- when the last member leaves, cradle 1 is emptied, and nobody is elsewhere
   pub last_row : row (server_of (last_change p)) ≡ padded_row (Departs ∷ [])
   unfolding padded_row
   last_row = ap row last_server
 
+  -- the departure of the last member can be published
   pub last_ready : IsReady (last_change p)
   last_ready = ready_by (last_change p) _ (tt, (a.given, (tt, tt))) last_server refl (lit< tt)
 
@@ -100,23 +110,28 @@ module _ (p : Publishing) (a : IsAmple p) where
   abbrev four : List Call
   four = admit 1004 4 ∷ admit 1003 3 ∷ admit 1002 2 ∷ admit 1001 1 ∷ []
 
+  -- the four arrivals can be published
   four_ready : IsReady four
   four_ready = record { given = (tt, (tt, (tt, (tt, tt)))); noted = refl; early = lit< tt }
 
+  -- of the members in cradles 1 to 4, the first departs
   pub four_row : row (server_of (change_of_four p)) ≡ padded_row (Departs ∷ Stays ∷ Stays ∷ Stays ∷ [])
   unfolding padded_row
   four_row = ap (λ s. row (server_after s (remove 1001))) (server-publish four four_ready p a)
 
 module _ (p q : Publishing) (a : IsAmple p) (b : IsAmple q) where
+  -- before the third change is published, the departure of 1001 is noted
   third_server : server_of (third_change p q)
       ≡ server_after (server_of_next_epoch (server_after (first_published p) (admit 1002 2)) q.material) (remove 1001)
   third_server =
       ap (λ s. server_after s (remove 1001)) (server-publish (second_change p) (second_ready p a) q b)
       ∙ ap (λ s. server_after (server_of_next_epoch s q.material) (remove 1001)) (second_server p a)
 
+  -- in the third change cradle 1 is emptied, and cradle 2 stays
   pub third_row : row (server_of (third_change p q)) ≡ padded_row (Departs ∷ Stays ∷ [])
   unfolding padded_row
   third_row = ap row third_server
 
+  -- the third change can be published
   pub third_ready : IsReady (third_change p q)
   third_ready = ready_by (third_change p q) _ (tt, (b.given, (second_ready p a).given)) third_server refl (lit< tt)

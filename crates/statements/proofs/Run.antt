@@ -47,6 +47,7 @@ site_after_ample w p = record {
 }
 
 module _ (calls : List Call) (ready : IsReady calls) (p : Publishing) (a : IsAmple p) where
+  -- after calls that are ready, an ample publishing leads to that site
   published_site : site_of (publish p ∷ calls) ≡ site_after_ample (site_of calls) p
   published_site =
       ap (λ (v : Verdict PublishReport). record {
@@ -61,22 +62,28 @@ module _ (p q : Publishing) (buffer : List ℕ) (a : IsAmple p) (b : IsAmple q) 
   seated_site : site_of (first_calls p) ≡ site_after_ample (site_of first_change) p
   seated_site = published_site first_change first_ready p a
 
+  -- 1001 is seated then
   was_seat : Contains (book_of (first_calls p)).seats seat_1001
   was_seat = subst (λ (w : Site). Contains w.book.seats seat_1001) (sym seated_site) (in_contains (seat_1001 ∷ []) seat_1001 (inl refl))
 
+  -- the law holds then
   first_law : LawHoldsAfter (first_calls p)
   first_law = every_run (first_calls p) (a.given, (tt, tt))
 
+  -- 1001 may have its card then
   card_accepted : card_verdict (server_of (first_calls p)) 1001 buffer ≡ Ok tt
   card_accepted = (first_law.cards seat_1001 was_seat buffer room).0
 
+  -- the key of leaf 128 is drawn from the first 32 bytes of the material
   key_drawn : (keys_in (server_of_next_epoch (server_of first_change) p.material).nodes 128).key ≡ take 32 p.material
   unfolding arrival_leaves emptied_leaves is_within tree_leaves inner_nodes stands_within is_changed changed_nodes
   key_drawn = refl
 
+  -- the leaf key of 1001 is the first that was drawn
   the_key : (keys_in (server_of (first_calls p)).nodes 128).key ≡ take 32 p.material
   the_key = ap (λ (w : Site). (keys_in w.server.nodes 128).key) seated_site ∙ key_drawn
 
+  -- the card of 1001 is that of its seat, with the first key that was drawn
   card_bytes : card_1001 p buffer ≡ card_of seat_1001 (take 32 p.material)
   card_bytes =
       let long : length (take 32 p.material) ≡ 32 = omega (arith, length-take-le 32 p.material (omega (arith, a.material))) in
@@ -98,9 +105,11 @@ module _ (p q : Publishing) (buffer : List ℕ) (a : IsAmple p) (b : IsAmple q) 
       let w = site_of (first_calls p) in
       ap (λ (v : Verdict (Unit {0})). record w { book = book_after w.book (card 1001 buffer) (is_err v) }) card_accepted
 
+  -- the calls before epoch 2 lead to that site
   noted_so : site_of noted_calls ≡ noted_site
   noted_so = ap (λ (w : Site). site_after (site_after w (remove 1001)) (admit 1002 1)) (carded ∙ seated_site)
 
+  -- these calls are lawfully given
   noted_given : AllLawfullyGiven noted_calls
   noted_given = (tt, (tt, (tt, (a.given, (tt, tt)))))
 
@@ -108,6 +117,7 @@ module _ (p q : Publishing) (buffer : List ℕ) (a : IsAmple p) (b : IsAmple q) 
   abbrev all : List Call
   all = all_calls p q buffer
 
+  -- the whole run leads to what the second publishing makes of that site
   whole_site : site_of all ≡ site_after_ample noted_site q
   whole_site =
       published_site noted_calls (record {
@@ -117,12 +127,15 @@ module _ (p q : Publishing) (buffer : List ℕ) (a : IsAmple p) (b : IsAmple q) 
       }) q b
       ∙ ap (λ (w : Site). site_after_ample w q) noted_so
 
+  -- at the end 1002 is seated, and the stay of 1001 has ended
   book : book_of all ≡ last_book
   book = ap (λ (w : Site). w.book) whole_site
 
+  -- the law holds after the whole run
   law : LawHoldsAfter all
   law = every_run all (b.given, noted_given)
 
+  -- the card was given in this run, while 1001 was seated
   card_given : IsGivenCard all seat_1001 (card_1001 p buffer)
   card_given = record {
     later = publish q ∷ admit 1002 1 ∷ remove 1001 ∷ [];
@@ -140,12 +153,15 @@ module _ (p q : Publishing) (buffer : List ℕ) (a : IsAmple p) (b : IsAmple q) 
   abbrev first_edition : Edition
   first_edition = edition_of (server_of first_change) p
 
+  -- the run made two files public, that of epoch 1 and then another
   both_files : files_of all ≡ edition_of noted_site.server q ∷ first_edition ∷ []
   both_files = ap (λ (w : Site). w.files) whole_site
 
+  -- of the files from epoch 1 to epoch 1 there is that one alone
   one_file : files_from_to 1 1 (files_of all) ≡ first_edition ∷ []
   one_file = ap (files_from_to 1 1) both_files
 
+  -- no other file has epoch 1
   first_only : (x : Edition) → Contains (files_of all) x → x.notice.epoch ≡ 1 → x ≡ first_edition
   first_only x i e = go (subst (λ (l : List Edition). In x l) both_files (contains_in (files_of all) x i))
     where
@@ -158,6 +174,7 @@ module _ (p q : Publishing) (buffer : List ℕ) (a : IsAmple p) (b : IsAmple q) 
   abbrev former_stay : Stay
   former_stay = record { seat = seat_1001; last = 1 }
 
+  -- it is a stay of the book at the end
   is_former : IsStay (book_of all) former_stay
   is_former = subst (λ (k : Book). IsStay k former_stay) (sym book) (in_stay last_book former_stay (inr (inl refl)))
 
@@ -165,12 +182,14 @@ module _ (p q : Publishing) (buffer : List ℕ) (a : IsAmple p) (b : IsAmple q) 
   abbrev the_card : List ℕ
   the_card = card_1001 p buffer
 
+  -- the card enrols a player, which holds the group key of epoch 1 after that epoch's file
   holds : Enrols seat_1001 the_card × ((accepted : Bool) (player : Player) (ring : List ℕ) →
       Course the_card (files_from_to 1 1 (files_of all)) accepted player ring →
       HoldsGroupKey (files_of all) seat_1001 1 accepted player ring)
   holds = law.members_hold former_stay 1 is_former (lit≤ tt, lit≤ tt) the_card card_given
 
   module _ (ring work : List ℕ) (whole : length ring ≡ 288) (long : 512 ≤ length work) where
+    -- the card enrols a player on this ring
     enrols : enrol_verdict the_card ring ≡ Ok numbers_1001
     enrols = holds.0 ring whole
 
@@ -194,13 +213,16 @@ module _ (p q : Publishing) (buffer : List ℕ) (a : IsAmple p) (b : IsAmple q) 
     abbrev ring_then : List ℕ
     ring_then = ring_1001_after the_read the_card ring
 
+    -- with that read the course has gone through the files of epoch 1
     whole_course : Course the_card (files_from_to 1 1 (files_of all)) accepts player_then ring_then
     whole_course =
         subst (λ (l : List Edition). Course the_card l accepts player_then ring_then) (sym one_file) (handed first_edition work long refused_course)
 
+    -- after it the player holds the group key of epoch 1
     holder : HoldsGroupKey (files_of all) seat_1001 1 accepts player_then ring_then
     holder = holds.1 accepts player_then ring_then whole_course
 
+    -- what is claimed of a player on this ring, with these working bytes
     player : PlayerExampleHolds (files_of all) the_card ring work
     player = record {
       file = first_edition;
@@ -218,6 +240,7 @@ module _ (p q : Publishing) (buffer : List ℕ) (a : IsAmple p) (b : IsAmple q) 
 
   -- Who was a member when.
 
+  -- 1001 was a member in epoch 1 alone, 1002 in epoch 2 alone, and nobody else ever
   members : (x e : ℕ) → IsMember (book_of all) x e → ((x ≡ 1001) × (e ≡ 1)) ⊎ ((x ≡ 1002) × (e ≡ 2))
   members x e m = go (stay_in last_book m.stay (subst (λ (k : Book). IsStay k m.stay) book m.is_stay))
     where
@@ -238,6 +261,7 @@ module _ (p q : Publishing) (buffer : List ℕ) (a : IsAmple p) (b : IsAmple q) 
   reaches : (x e : ℕ) → IsMember (book_of all) x e → ReachesGroupKey (site_of all) x e
   reaches x e m = (law.reached_by_members (x ∷ []) e).1 (x, (in_contains (x ∷ []) x (inl refl), m))
 
+  -- 1001 reaches the key of epoch 1 alone, 1002 that of epoch 2 alone, and nobody else any
   reached_in : (x e : ℕ) → ReachesGroupKey (site_of all) x e → ((x ≡ 1001) × (e ≡ 1)) ⊎ ((x ≡ 1002) × (e ≡ 2))
   reached_in x e r = let some = (law.reached_by_members (x ∷ []) e).0 r in
       go some.0 some.1.1 (contains_in (x ∷ []) some.0 some.1.0)
@@ -246,6 +270,7 @@ module _ (p q : Publishing) (buffer : List ℕ) (a : IsAmple p) (b : IsAmple q) 
       go y m (inl s) = members x e (subst (λ (z : ℕ). IsMember (book_of all) z e) s m)
       go y m (inr other) = absurd other
 
+  -- so any other pair of a scanner and an epoch is out of reach
   misses : (x e : ℕ) → ((x ≡ 1001) × (e ≡ 1) → ⊥) → ((x ≡ 1002) × (e ≡ 2) → ⊥) → ReachesGroupKey (site_of all) x e → ⊥
   misses x e f g r = elim (reached_in x e r) [ inl h ↦ f h | inr h ↦ g h ]
 
@@ -253,9 +278,11 @@ module _ (p q : Publishing) (buffer : List ℕ) (a : IsAmple p) (b : IsAmple q) 
   abbrev present_stay : Stay
   present_stay = record { seat = seat_1002; last = 2 }
 
+  -- it is a stay of the book at the end
   is_present : IsStay (book_of all) present_stay
   is_present = subst (λ (k : Book). IsStay k present_stay) (sym book) (in_stay last_book present_stay (inl (inl refl, refl)))
 
+  -- what this run comes to
   pub run_example : RunExampleHolds p q buffer
   run_example = record {
     book = book;
@@ -268,5 +295,6 @@ module _ (p q : Publishing) (buffer : List ℕ) (a : IsAmple p) (b : IsAmple q) 
     key_1_not_by_1002 = misses 1002 1 (λ h. omega (arith, h.0)) (λ h. omega (arith, h.1));
   }
 
+-- it comes to this with any ample publishings, and any buffer with room for the card
 pub run_examples : RunExamplesHold
 run_examples p q buffer a b room = run_example p q buffer a b room

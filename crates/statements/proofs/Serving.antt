@@ -29,10 +29,12 @@ use Rattle.statements.proofs.Ample.{few_bytes, ample_plans, plan_passes, publish
 use Rattle.statements.proofs.Changes.{padded_row, sound, first_ready, file_length, last_server, last_row}
 use Rattle.statements.proofs.Worked.{one_row}
 
+-- for one arrival, where nobody else is, 256 bytes are drawn
 arrival_drawn : drawn_size (padded_row (Arrives ∷ [])) ≡ 256
 unfolding padded_row arrival_leaves is_within tree_nodes tree_leaves inner_nodes stands_within is_changed changed_nodes
 arrival_drawn = refl
 
+-- for the first change 256 bytes are drawn
 one_arrival : drawn_size (row (server_of first_change)) ≡ 256
 one_arrival = ap drawn_size one_row ∙ arrival_drawn
 
@@ -46,16 +48,19 @@ short_material s p e few lacking h = rw few (rw lacking (ap (λ (k : ℕ). refus
 abbrev s : State
 s = server_of first_change
 
+-- with 255 bytes of material the first change is refused, and the 256 are named
 a_byte_short : (p : Publishing) → 512 ≤ length p.work → length p.material ≡ 255 → publish_verdict s p ≡ refusal 10 (256 ∷ [])
 a_byte_short p work material =
     let less : length p.material < drawn_size (row s) = omega (arith, material, one_arrival) in
     ap (λ (v : Verdict (Unit {0})). verdict_and v (publish_file_verdict s p))
     (short_material s p 256 (le-ltb (length p.work) 512 work) (lt-ltb (length p.material) (drawn_size (row s)) less) one_arrival)
 
+-- the key-oriented plan for one arrival, where nobody else is, has 7 pairs
 arrival_wraps : length (plan key_oriented_rule (padded_row (Arrives ∷ []))) ≡ 7
 unfolding padded_row is_within tree_nodes tree_leaves inner_nodes stands_within is_changed is_occupied changed_nodes candidates pairs_for plan
 arrival_wraps = refl
 
+-- with enough for one arrival, epoch 1 is reported, with 7 wraps and 256 bytes drawn
 first_epoch : (p : Publishing) → IsEnoughForOne p →
     publish_verdict s p ≡ Ok (record { epoch = 1; wraps = 7; bytes = byte_count p first_change; drawn = 256 })
 first_epoch p it =
@@ -70,12 +75,14 @@ first_epoch p it =
     ∙ ap₂ (λ (w b : ℕ). Ok (record { epoch = 1; wraps = w; bytes = b; drawn = drawn_size (row s) })) wraps (sym size)
     ∙ ap (λ (d : ℕ). Ok (record { epoch = 1; wraps = 7; bytes = byte_count p first_change; drawn = d })) one_arrival
 
+-- what is admitted is a serial in range, at a cradle in range
 admit_checks : AdmitChecks (λ x c. is_serial x && is_cradle c)
 admit_checks s x c ok =
     let a = passed (not (is_serial x)) _ _ _ ok in
     let b = passed (not (is_cradle c)) _ _ _ a.1 in
     and_from (is_serial x) (is_cradle c) (not-false (is_serial x) a.0) (not-false (is_cradle c) b.0)
 
+-- what is enough for any change is enough for the first arrival
 ample_enough : (p : Publishing) (L : ℕ) → IsAmpleBy key_oriented_rule L p → IsEnoughForOne p
 ample_enough p L a =
     let it = a.ample in
@@ -93,10 +100,12 @@ ample_enough p L a =
     one_sound : IsSoundServer s
     one_sound = sound first_change first_ready
 
+-- for the departure of the only member, from cradle 1, 224 bytes are drawn
 departure_drawn : drawn_size (padded_row (Departs ∷ [])) ≡ 224
 unfolding padded_row arrival_leaves is_within tree_nodes tree_leaves inner_nodes stands_within is_changed changed_nodes
 departure_drawn = refl
 
+-- what is answered, reported and drawn in these changes
 pub server_examples : ServerExamplesHold
 server_examples = record {
   last_cradle = refl;

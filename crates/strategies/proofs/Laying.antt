@@ -21,6 +21,7 @@ with_append : (list : PairList) (xs ys : List Pair) → with_pairs list (xs ++ y
 with_append list [] ys = refl
 with_append list (x ∷ xs) ys = with_append (with_pair list x) xs ys
 
+-- pairs laid in two parts are laid as if all at once
 with_split : (list : PairList) (xs ys all : List Pair) → all ≡ xs ++ ys → with_pairs (with_pairs list xs) ys ≡ with_pairs list all
 with_split list xs ys all e = sym (with_append list xs ys) ∙ ap (with_pairs list) (sym e)
 
@@ -76,6 +77,7 @@ module _ (rule : Rule) (row : List Code) where
   unfoldable pub present_pairs_from : ℕ → ℕ → List Pair
   present_pairs_from n o = pairs_under rule row n (map Present (range_with_len o (256 - o)))
 
+  -- the former key's pair and then those of all present keys are all the pairs of n
   pub with_former : (list : PairList) (n : ℕ)
       → with_pairs (with_pairs list (pairs_under rule row n (Former n ∷ []))) (present_pairs_from n 1) ≡ with_pairs list (pairs_for rule row n)
   unfolding pairs_for candidates tree_nodes present_pairs_from
@@ -83,17 +85,20 @@ module _ (rule : Rule) (row : List Code) where
       with_split list (pairs_under rule row n (Former n ∷ [])) (present_pairs_from n 1) (pairs_for rule row n)
       (under_more n (Former n) (map Present tree_nodes))
 
+  -- the pairs from o on are that of o, if it serves, and those from the next node on
   presents_more : (n o : ℕ) → o ≤ 255 → present_pairs_from n o ≡ pairs_under rule row n (Present o ∷ []) ++ present_pairs_from n (o + 1)
   unfolding present_pairs_from
   presents_more n o h =
       let e : 256 - o ≡ suc (256 - (o + 1)) = omega arith in
       rw e (under_more n (Present o) (map Present (range_with_len (o + 1) (256 - (o + 1)))))
 
+  -- after the pair of o, if it serves, those from the next node on are left
   pub with_present : (list : PairList) (n o : ℕ) → o ≤ 255
       → with_pairs (with_pairs list (pairs_under rule row n (Present o ∷ []))) (present_pairs_from n (o + 1)) ≡ with_pairs list (present_pairs_from n o)
   with_present list n o h =
       with_split list (pairs_under rule row n (Present o ∷ [])) (present_pairs_from n (o + 1)) (present_pairs_from n o) (presents_more n o h)
 
+  -- at the last node no pair but its own is left
   pub with_last : (list : PairList) (n o : ℕ) → o ≤ 255 → 255 ≤ o
       → with_pairs list (present_pairs_from n o) ≡ with_pairs list (pairs_under rule row n (Present o ∷ []))
   unfolding present_pairs_from
@@ -103,10 +108,12 @@ module _ (rule : Rule) (row : List Code) where
   unfoldable pub plan_up_to : ℕ → List Pair
   plan_up_to k = flat_map (pairs_for rule row) (changed_nodes_up_to row k)
 
+  -- up to 127, they are the whole plan
   pub with_plan : (list : PairList) → with_pairs list (plan_up_to 127) ≡ with_pairs list (plan rule row)
   unfolding plan_up_to plan
   with_plan list = ap (λ ns. with_pairs list (flat_map (pairs_for rule row) ns)) (changed_all row)
 
+  -- the pairs up to a changed node are its own, and then those of the smaller contents
   plan_more : (n : ℕ) → 0 < n → true ≡ is_changed row n → plan_up_to n ≡ pairs_for rule row n ++ plan_up_to (n - 1)
   unfolding plan_up_to
   plan_more zero h e = absurd (omega arith)
@@ -114,10 +121,12 @@ module _ (rule : Rule) (row : List Code) where
       let less : suc k - 1 ≡ k = omega arith in
       rw less (ap (flat_map (pairs_for rule row)) (changed_yes row k (sym e)))
 
+  -- after the pairs of a changed node, those of the smaller contents are left
   pub with_changed : (list : PairList) (n : ℕ) → 0 < n → true ≡ is_changed row n
       → with_pairs (with_pairs list (pairs_for rule row n)) (plan_up_to (n - 1)) ≡ with_pairs list (plan_up_to n)
   with_changed list n h e = with_split list (pairs_for rule row n) (plan_up_to (n - 1)) (plan_up_to n) (plan_more n h e)
 
+  -- an unchanged node has no pairs
   pub with_unchanged : (list : PairList) (n : ℕ) → 0 < n → false ≡ is_changed row n → with_pairs list (plan_up_to (n - 1)) ≡ with_pairs list (plan_up_to n)
   unfolding plan_up_to
   with_unchanged list zero h e = absurd (omega arith)
@@ -125,6 +134,7 @@ module _ (rule : Rule) (row : List Code) where
       let less : suc k - 1 ≡ k = omega arith in
       rw less (ap (λ ns. with_pairs list (flat_map (pairs_for rule row) ns)) (sym (changed_no row k (sym e))))
 
+  -- up to 0, nothing is left
   pub with_none : (list : PairList) (k : ℕ) → k ≡ 0 → with_pairs list (plan_up_to k) ≡ list
   unfolding plan_up_to
   with_none list k e = rw e (ap (λ ns. with_pairs list (flat_map (pairs_for rule row) ns)) (changed_none row))

@@ -7,11 +7,13 @@ abbrev pub bit : Bool → ℕ
 bit true = 1
 bit false = 0
 
+-- what passes only where one of two others does counts no more than both of them
 bit_or : (a b c : Bool) → (a ≡ true → (b ≡ true) ⊎ (c ≡ true)) → bit a ≤ bit b + bit c
 bit_or true b c h = elim (h refl) [ inl e ↦ omega (arith, ap bit e) | inr e ↦ omega (arith, ap bit e) ]
 bit_or false b c h = omega arith
 
 module _ {A : Type 0} where
+  -- one member more counts as 1 if it passes, and as 0 if not
   pub kept_more : (p : A → Bool) (x : A) (xs : List A) → length (filter p (x ∷ xs)) ≡ bit (p x) + length (filter p xs)
   kept_more p x xs =
       elim (p x) as (λ b. length (cond b (x ∷ filter p xs) (filter p xs)) ≡ bit b + length (filter p xs)) [ true ↦ omega arith | false ↦ omega arith ]
@@ -45,6 +47,7 @@ module _ {A : Type 0} where
   kept_lt p q (x ∷ xs) u h (inr i) f t =
       omega (arith, kept_more p x xs, kept_more q x xs, bit_or (p x) (q x) false (λ e. inl (h x (inl refl) e)), kept_lt p q xs u (λ y j. h y (inr j)) i f t)
 
+-- of a mapped list as many pass as there are members whose image passes
 pub kept_map : {A B : Type 0} (p : B → Bool) (f : A → B) (xs : List A) → length (filter p (map f xs)) ≡ length (filter (λ x. p (f x)) xs)
 kept_map p f [] = refl
 kept_map p f (x ∷ xs) = omega (arith, kept_more p (f x) (map f xs), kept_more (λ y. p (f y)) x xs, kept_map p f xs)

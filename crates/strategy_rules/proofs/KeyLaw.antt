@@ -18,6 +18,7 @@ use Rattle.strategy_rules.proofs.Widths.{width, IsLeafUnder, leaf_under, under_f
 use Rattle.strategy_rules.proofs.Planned.{former_in, present_in, former_own, candidates_kept, IsServed, known_present, lawful}
 use Rattle.tree.proofs.Members.{In}
 
+-- just one code says that somebody arrives in an empty cradle
 arrives_only : (c : Code) → is_arrival_in_empty c ≡ true → c ≡ Arrives
 arrives_only Empty e = absurd (false≢true e)
 arrives_only Stays e = absurd (false≢true e)
@@ -25,12 +26,14 @@ arrives_only Arrives e = refl
 arrives_only Departs e = absurd (false≢true e)
 arrives_only Swaps e = absurd (false≢true e)
 
+-- half of a child's number is its parent's
 child_half : (n o : ℕ) → is_child o n ≡ true → o / 2 ≡ n
 child_half n o e = elim (or_cases (eqb o (2 * n)) (eqb o (2 * n + 1)) e) [
   | inl q ↦ omega (arith, eqb-true o (2 * n) q)
   | inr q ↦ omega (arith, eqb-true o (2 * n + 1) q)
 ]
 
+-- a number whose half is n is a child of n
 half_child : (n o : ℕ) → o / 2 ≡ n → is_child o n ≡ true
 half_child n o q = elim (cases_eq o (2 * n)) [
   | inl e ↦ rw (eq-eqb o (2 * n) e) refl
@@ -51,9 +54,11 @@ module _ (row : List Code) (n : ℕ) where
   is_occupied_child o = is_child o n && is_occupied row o
 
   module _ (f : former_serves row n ≡ true) where
+    -- besides the former key, the leaves with an arrival beneath n serve, and no other node
     by_former : (o : ℕ) → key_oriented_rule row n (Present o) ≡ is_arrival_beneath o
     by_former o = cond-true (former_serves row n) (is_arrival_beneath o) (is_occupied_child o) f
 
+    -- a present key that serves is that of a leaf beneath n that somebody arrives at
     former_newcomer : (o : ℕ) → key_oriented_rule row n (Present o) ≡ true → IsLeafUnder is_arrival_at n o
     former_newcomer o e = leaf_under is_arrival_at n o (sym (by_former o) ∙ e)
 
@@ -69,6 +74,7 @@ module _ (row : List Code) (n : ℕ) where
         let less = leaves_fit_but is_arrival_at n serves i former_newcomer u s.is_leaf s.under stays in
         omega (arith, candidates_kept (key_oriented_rule row n) n, ap bit f)
 
+    -- each leaf beneath n that is occupied after the change knows an opener that serves n
     former_known : (u : ℕ) → IsInner n → IsLeaf u → IsBeneath u n → is_occupied_after (code_at row u) ≡ true
         → (c : Code) → code_at row u ≡ c → IsServed key_oriented_rule row n u
     former_known u i l b e Empty q = absurd (both_ways (is_occupied_after (code_at row u)) (ap is_occupied_after q) e)
@@ -82,12 +88,15 @@ module _ (row : List Code) (n : ℕ) where
         (Present u, (present_in n u (omega arith) l.1, (by_former u ∙ under, inl refl)))
 
   module _ (f : former_serves row n ≡ false) where
+    -- where the former key does not serve, exactly the occupied children do
     by_child : (o : ℕ) → key_oriented_rule row n (Present o) ≡ is_occupied_child o
     by_child o = cond-false (former_serves row n) (is_arrival_beneath o) (is_occupied_child o) f
 
+    -- a node that serves is a child of n, and occupied
     occupied_child_is : (o : ℕ) → key_oriented_rule row n (Present o) ≡ true → (is_child o n ≡ true) × (is_occupied row o ≡ true)
     occupied_child_is o e = and_parts (is_child o n) (is_occupied row o) (sym (by_child o) ∙ e)
 
+    -- the children that serve are no more than the leaves beneath n
     children_few : IsInner n → length (filter (key_oriented_rule row n) (candidates n)) ≤ width n
     children_few i =
         let two = kept_or (λ o. key_oriented_rule row n (Present o)) (λ o. eqb o (2 * n)) (λ o. eqb o (2 * n + 1)) tree_nodes
@@ -110,6 +119,7 @@ module _ (row : List Code) (n : ℕ) where
         let child = and_from (is_child o n) (is_occupied row o) (half_child n o q) (occupied_up row u o l w e) in
         (Present o, (present_in n o l (omega arith), (by_child o ∙ child, known_present row n u o w (0, q))))
 
+  -- whatever serves n may open it
   opens : (o : Opener) → In o (candidates n) → key_oriented_rule row n o ≡ true → MayOpen row n o
   opens (Former o) i e = (former_own n o i, former_is row n e)
   opens (Present o) i e = elim (cases_Bool (former_serves row n)) [
@@ -117,14 +127,17 @@ module _ (row : List Code) (n : ℕ) where
     | inr f ↦ let p = occupied_child_is f o e in (p.1, (0, child_half n o p.0))
   ]
 
+  -- each occupied leaf beneath n, if n is changed, knows an opener that serves n
   known : (u : ℕ) → is_changed row n ≡ true → IsLeaf u → IsBeneath u n → is_occupied row u ≡ true → IsServed key_oriented_rule row n u
   known u c l b e = elim (cases_Bool (former_serves row n)) [
     | inl f ↦ former_known f u (changed_inner row n c) l b (sym (occupied_leaf row u l) ∙ e) (code_at row u) refl
     | inr f ↦ child_known f u (changed_inner row n c) b e
   ]
 
+  -- no more openers serve n than there are leaves beneath it
   few : IsInner n → length (filter (key_oriented_rule row n) (candidates n)) ≤ width n
   few i = elim (cases_Bool (former_serves row n)) [ inl f ↦ former_few f i | inr f ↦ children_few f i ]
 
+-- whatever the row, this rule makes a lawful plan
 pub key_oriented_lawful : (row : List Code) → IsLawfulPlan row (plan key_oriented_rule row)
 key_oriented_lawful row = lawful key_oriented_rule row (record { opens = opens row; known = known row; few = few row })

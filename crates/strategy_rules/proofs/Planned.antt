@@ -17,10 +17,12 @@ use Rattle.strategy_rules.specs.Rules.{Rule, candidates, pairs_for, plan}
 use Rattle.strategy_rules.proofs.Kept.{bit, kept_more, kept_map}
 use Rattle.strategy_rules.proofs.Widths.{passing_count, width, width_sum, all_widths, node_in}
 
+-- the former key of n is a candidate for n
 pub former_in : (n : ℕ) → In (Former n) (candidates n)
 unfolding candidates
 former_in n = inl refl
 
+-- the present key of each node is a candidate for n
 pub present_in : (n o : ℕ) → 0 < o → o < 256 → In (Present o) (candidates n)
 unfolding candidates
 present_in n o l h = inr (map_in Present tree_nodes o (node_in o l h))
@@ -31,6 +33,7 @@ unfolding candidates
 former_own n o (inl e) = cc
 former_own n o (inr h) = let p = (in_map Present tree_nodes (Former o) h).1.1 in absurd (let z : ◌≡◌ {A = ℕ} 0 1 = cc in omega arith)
 
+-- the candidates kept are the former key, if it is kept, and the present keys kept
 pub candidates_kept : (keep : Opener → Bool) (n : ℕ) → length (filter keep (candidates n)) ≡ bit (keep (Former n)) + passing_count (λ o. keep (Present o))
 unfolding candidates
 candidates_kept keep n = omega (arith, kept_more keep (Former n) (map Present tree_nodes), kept_map keep Present tree_nodes)
@@ -39,6 +42,7 @@ candidates_kept keep n = omega (arith, kept_more keep (Former n) (map Present tr
 abbrev pub IsServed : Rule → List Code → ℕ → ℕ → Type 0
 IsServed rule row n u = (o : Opener) × (In o (candidates n) × ((rule row n o ≡ true) × IsKnownAt row n u o))
 
+-- the present key of a node beneath n is known at each leaf within that node
 pub known_present : (row : List Code) (n u o : ℕ) → IsWithin u o → IsBeneath o n → IsKnownAt row n u (Present o)
 known_present row n u o w b = elim (within_cases u o w) [ inl e ↦ inl (sym e) | inr d ↦ inr (b, d) ]
 
@@ -49,6 +53,7 @@ module _ (rule : Rule) (row : List Code) where
     pub candidate : In p.opener (candidates p.content)
     pub serves : rule row p.content p.opener ≡ true
 
+  -- each pair of the plan is one that the rule asks for
   pub in_plan : (p : Pair) → In p (plan rule row) → IsPlanned p
   unfolding plan pairs_for
   in_plan p h =
@@ -58,6 +63,7 @@ module _ (rule : Rule) (row : List Code) where
       let k = in_kept (rule row n) (candidates n) m.0 m.1.0 in
       subst (λ (q : Pair). IsPlanned q) (sym m.1.1) (record { change = in_changed row n j.1.0; candidate = k.0; serves = k.1 })
 
+  -- each pair that the rule asks for is in the plan
   pub plan_in : (n : ℕ) (o : Opener) → is_changed row n ≡ true → In o (candidates n) → rule row n o ≡ true → In (pair o n) (plan rule row)
   unfolding plan pairs_for
   plan_in n o c i e =
@@ -68,6 +74,7 @@ module _ (rule : Rule) (row : List Code) where
   abbrev pub HasFewEach : Type 0
   HasFewEach = (n : ℕ) → IsInner n → length (filter (rule row n) (candidates n)) ≤ width n
 
+  -- then the contents up to k have no more pairs than their numbers of leaves, added
   few_up_to : HasFewEach → (k : ℕ) → k < 128 → length (flat_map (pairs_for rule row) (changed_nodes_up_to row k)) ≤ width_sum k
   unfolding pairs_for
   few_up_to few zero h = omega (arith, ap (λ ns. length (flat_map (pairs_for rule row) ns)) (changed_none row))
@@ -86,6 +93,7 @@ module _ (rule : Rule) (row : List Code) where
         | inr z ↦ omega (arith, ap size (changed_no row k z))
       ]
 
+  -- then the plan has at most 896 pairs
   pub plan_few : HasFewEach → length (plan rule row) ≤ 896
   unfolding plan
   plan_few few =
@@ -99,6 +107,7 @@ module _ (rule : Rule) (row : List Code) where
     pub known : (n u : ℕ) → is_changed row n ≡ true → IsLeaf u → IsBeneath u n → is_occupied row u ≡ true → IsServed rule row n u
     pub few : HasFewEach
 
+  -- a rule that pays what it owes makes a lawful plan
   pub lawful : ServesLawfully → IsLawfulPlan row (plan rule row)
   lawful s = record {
     contents = λ p h. (in_plan p (contains_in (plan rule row) p h)).change;

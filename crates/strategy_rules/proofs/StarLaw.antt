@@ -12,10 +12,12 @@ use Rattle.strategy_rules.proofs.Widths.{leaf_under, under_from, leaves_fit}
 use Rattle.strategy_rules.proofs.Planned.{candidates_kept, present_in, lawful}
 
 module _ (row : List Code) where
+  -- whatever serves a node may open it
   opens : (n : ℕ) (o : Opener) → star_rule row n o ≡ true → MayOpen row n o
   opens n (Former o) e = absurd (false≢true e)
   opens n (Present o) e = let s = leaf_under (is_occupied row) n o e in (s.passes, s.under)
 
+  -- whatever the row, this rule makes a lawful plan
   pub star_lawful : IsLawfulPlan row (plan star_rule row)
   star_lawful = lawful star_rule row (record {
     opens = λ n o i e. opens n o e;

@@ -18,6 +18,7 @@ use Rattle.strategy_rules.proofs.Planned.{candidates_kept, present_in, IsServed,
 use Rattle.tree.proofs.Members.{In}
 
 module _ (row : List Code) where
+  -- a leaf is not among the changed nodes
   leaf_unchanged : (u : ℕ) → IsLeaf u → is_changed row u ≡ false
   leaf_unchanged u l = elim (cases_Bool (is_changed row u)) [ inl t ↦ absurd (omega (arith, (changed_inner row u t).1)) | inr f ↦ f ]
 
@@ -25,6 +26,7 @@ module _ (row : List Code) where
   abbrev is_unchanged_node : ℕ → Bool
   is_unchanged_node o = is_leaf o || (is_inner o && not (is_changed row o))
 
+  -- such a node is not among the changed ones
   still_is : (o : ℕ) → is_unchanged_node o ≡ true → is_changed row o ≡ false
   still_is o e = elim (or_cases (is_leaf o) (is_inner o && not (is_changed row o)) e) [
     | inl l ↦ leaf_unchanged o (leaf_is o l)
@@ -37,12 +39,14 @@ module _ (row : List Code) where
     occupied : is_occupied row o ≡ true
     same : is_changed row o ≡ false
 
+  -- what passes the test is a top
   top_is : (o : ℕ) → is_top row o ≡ true → IsTop o
   top_is o e =
       let a = and_parts (is_changed row (o / 2)) (is_occupied row o && is_unchanged_node o) e in
       let b = and_parts (is_occupied row o) (is_unchanged_node o) a.1 in
       record { above = a.0; occupied = b.0; same = still_is o b.1 }
 
+  -- every top passes the test
   top_from : (o : ℕ) → 0 < o → o < 256 → IsTop o → is_top row o ≡ true
   top_from o l h t =
       rw (t.above, t.occupied, t.same) (elim (cases_lt o 128) [
@@ -54,9 +58,11 @@ module _ (row : List Code) where
   abbrev is_top_within : ℕ → ℕ → Bool
   is_top_within n o = is_within o n && is_top row o
 
+  -- what passes is a top, and is n or beneath it
   within_top : (n o : ℕ) → is_top_within n o ≡ true → IsWithin o n × (is_top row o ≡ true)
   within_top n o e = let p = and_parts (is_within o n) (is_top row o) e in (within_is o n p.0, p.1)
 
+  -- a top that is n or beneath it passes
   top_within_lem : (n o : ℕ) → 0 < n → o < 256 → IsWithin o n → is_top row o ≡ true → is_top_within n o ≡ true
   top_within_lem n o l h w e = and_from (is_within o n) (is_top row o) (within_from o n h l w) e
 
@@ -101,6 +107,7 @@ module _ (row : List Code) where
         omega (arith, alone, one_fits n l h)
   ]
 
+  -- no more tops serve n than there are leaves beneath it
   few : (n : ℕ) → IsInner n → length (filter (user_oriented_rule row n) (candidates n)) ≤ width n
   few n i =
       omega (
@@ -112,11 +119,13 @@ module _ (row : List Code) where
             top_within_lem n o i.0 (in_nodes o j) (beneath_within o n (beneath_is o n p.0)) p.1),
       )
 
+  -- whatever serves a node may open it
   opens : (n : ℕ) (o : Opener) → user_oriented_rule row n o ≡ true → MayOpen row n o
   opens n (Former o) e = absurd (false≢true e)
   opens n (Present o) e = let p = and_parts (is_beneath o n) (is_top row o) e in ((top_is o p.1).occupied, beneath_is o n p.0)
 
   module _ (n u : ℕ) (c : is_changed row n ≡ true) where
+    -- a top beneath n serves n at each leaf within the top
     top_serves : (k o : ℕ) → ancestor (suc k) o ≡ n → o < 256 → IsTop o → IsWithin u o → IsServed user_oriented_rule row n u
     top_serves k o b h t w =
         let l : 0 < o = omega (arith, (changed_inner row n c).0, halved_low (suc k) o) in
@@ -136,6 +145,7 @@ module _ (row : List Code) where
           climbs k (o / 2) up (omega arith) (occupied_up row o (o / 2) node (1, refl) e) g (within_up u o w)
     ]
 
+  -- whatever the row, this rule makes a lawful plan
   pub user_oriented_lawful : IsLawfulPlan row (plan user_oriented_rule row)
   user_oriented_lawful = lawful user_oriented_rule row (record {
     opens = λ n o i e. opens n o e;

@@ -21,10 +21,12 @@ pub halved_first : (k n : ℕ) → ancestor k (n / 2) ≡ ancestor (suc k) n
 halved_first zero n = refl
 halved_first (suc k) n = ap (λ x. x / 2) (halved_first k n)
 
+-- halving never makes a number greater
 pub halved_low : (k n : ℕ) → ancestor k n ≤ n
 halved_low zero n = omega arith
 halved_low (suc k) n = omega (arith, halved_low k n)
 
+-- 0 stays 0, however often it is halved
 halved_zero : (k : ℕ) → ancestor k 0 ≡ 0
 halved_zero k = omega (arith, halved_low k 0)
 
@@ -41,6 +43,7 @@ few_halvings k m h p = elim (cases_lt k 8) [
 
 -- The tests say what the facts say.
 
+-- what passes the test is n or beneath it
 pub within_is : (m n : ℕ) → is_within m n ≡ true → IsWithin m n
 unfolding is_within
 within_is m n e =
@@ -48,10 +51,12 @@ within_is m n e =
     let w = some_who halves (range_with_len 0 8) (and_parts (ltb 0 n) (list_any halves (range_with_len 0 8)) e).1 in
     (w.0, eqb-true (ancestor w.0 m) n w.1.1)
 
+-- nothing passes for 0, which is no node
 pub within_node : (m n : ℕ) → is_within m n ≡ true → 0 < n
 unfolding is_within
 within_node m n e = ltb-true 0 n (and_parts (ltb 0 n) (list_any (λ k. eqb (ancestor k m) n) (range_with_len 0 8)) e).0
 
+-- a node itself, and whatever is beneath it, passes the test
 pub within_from : (m n : ℕ) → m < 256 → 0 < n → IsWithin m n → is_within m n ≡ true
 unfolding is_within
 within_from m n h l (k, e) =
@@ -60,33 +65,43 @@ within_from m n h l (k, e) =
     (counting_in 0 8 k (omega arith) (few_halvings k m h (omega arith)))
     (eq-eqb (ancestor k m) n e))
 
+-- what passes the test is beneath n
 pub beneath_is : (m n : ℕ) → is_beneath m n ≡ true → IsBeneath m n
 beneath_is m n e = let w = within_is (m / 2) n e in (w.0, sym (halved_first w.0 m) ∙ w.1)
 
+-- whatever is beneath a node passes the test
 pub beneath_from : (m n : ℕ) → m < 256 → 0 < n → IsBeneath m n → is_beneath m n ≡ true
 beneath_from m n h l (k, e) = within_from (m / 2) n (omega arith) l (k, halved_first k m ∙ e)
 
+-- for a node, exactly the node itself and what is beneath it pass the test
 pub within_iff : (m n : ℕ) → m < 256 → IsTrue (is_within m n) ↔ ((0 < n) × IsWithin m n)
 within_iff m n h = (λ e. (within_node m n e, within_is m n e), λ w. within_from m n h w.0 w.1)
 
+-- for a node, exactly what is beneath it passes the test
 pub beneath_iff : (m n : ℕ) → m < 256 → IsTrue (is_beneath m n) ↔ ((0 < n) × IsBeneath m n)
 beneath_iff m n h = (λ e. (within_node (m / 2) n e, beneath_is m n e), λ b. beneath_from m n h b.0 b.1)
 
+-- a number that passes the test is a leaf
 pub leaf_is : (u : ℕ) → is_leaf u ≡ true → IsLeaf u
 leaf_is u e = let p = and_parts (leb 128 u) (ltb u 256) e in (leb-true 128 u p.0, ltb-true u 256 p.1)
 
+-- every leaf passes the test
 pub leaf_from : (u : ℕ) → IsLeaf u → is_leaf u ≡ true
 leaf_from u l = and_from (leb 128 u) (ltb u 256) (le-leb 128 u l.0) (lt-ltb u 256 l.1)
 
+-- a number that passes the test is an inner node
 pub inner_is : (n : ℕ) → is_inner n ≡ true → IsInner n
 inner_is n e = let p = and_parts (ltb 0 n) (ltb n 128) e in (ltb-true 0 n p.0, ltb-true n 128 p.1)
 
+-- every inner node passes the test
 pub inner_from : (n : ℕ) → IsInner n → is_inner n ≡ true
 inner_from n i = and_from (ltb 0 n) (ltb n 128) (lt-ltb 0 n i.0) (lt-ltb n 128 i.1)
 
+-- exactly the leaves pass the test
 pub leaf_iff : (u : ℕ) → IsTrue (is_leaf u) ↔ (IsLeaf u)
 leaf_iff u = (leaf_is u, leaf_from u)
 
+-- exactly the inner nodes pass the test
 pub inner_iff : (n : ℕ) → IsTrue (is_inner n) ↔ (IsInner n)
 inner_iff n = (inner_is n, inner_from n)
 
@@ -112,18 +127,23 @@ pub ruleset walk = (within_step, within_stop)
 
 -- What stands where.
 
+-- a node is within itself
 pub within_self : (n : ℕ) → IsWithin n n
 within_self n = (0, refl)
 
+-- what is within a node is within all that this node is within
 pub within_trans : (u m n : ℕ) → IsWithin u m → IsWithin m n → IsWithin u n
 within_trans u m n a b = (b.0 + a.0, sym (halved_add b.0 a.0 u) ∙ ap (ancestor b.0) a.1 ∙ b.1)
 
+-- what is within a node is within the node's parent
 pub within_up : (u m : ℕ) → IsWithin u m → IsWithin u (m / 2)
 within_up u m (k, e) = (suc k, ap (λ x. x / 2) e)
 
+-- what is beneath a node is within it
 pub beneath_within : (m n : ℕ) → IsBeneath m n → IsWithin m n
 beneath_within m n (k, e) = (suc k, e)
 
+-- what is within a node is the node itself or beneath it
 pub within_cases : (m n : ℕ) → IsWithin m n → (m ≡ n) ⊎ IsBeneath m n
 within_cases m n (zero, e) = inl e
 within_cases m n (suc k, e) = inr (k, e)

@@ -20,6 +20,7 @@ pub record StandsWithin (test : Code → Bool) (row : List Code) (n : ℕ) : Typ
   pub passes : test (code_at row at) ≡ true
 
 module _ (test : Code → Bool) (row : List Code) where
+  -- where the test passes, there is a leaf whose code passes, at n or beneath it
   pub stands_is : (n : ℕ) → stands_within test row n ≡ true → StandsWithin test row n
   unfolding stands_within tree_leaves
   stands_is n e =
@@ -28,6 +29,7 @@ module _ (test : Code → Bool) (row : List Code) where
       let p = and_parts (is_within w.0 n) (test (code_at row w.0)) w.1.1 in
       record { at = w.0; is_leaf = (l.0, l.1); under = within_is w.0 n p.0; passes = p.1 }
 
+  -- where a leaf at n or beneath it has a code that passes, the test passes
   pub stands_from : (n u : ℕ) → 0 < n → IsLeaf u → IsWithin u n → test (code_at row u) ≡ true → stands_within test row n ≡ true
   unfolding stands_within tree_leaves
   stands_from n u o l w e =
@@ -79,6 +81,7 @@ module _ (test : Code → Bool) (row : List Code) where
         | inr b ↦ half (2 * n + 1) (omega arith) b
       ]
 
+  -- for an inner node, the test passes exactly where a leaf beneath has a code that passes
   pub stands_iff : (n : ℕ) → IsInner n → IsTrue (stands_within test row n) ↔ (SomeBeneath test row n)
   stands_iff n i = (down, λ w. stands_from n w.0 i.0 w.1.0 (beneath_within w.0 n w.1.1.0) w.1.1.1)
     where
@@ -89,6 +92,7 @@ module _ (test : Code → Bool) (row : List Code) where
       ]
 
 module _ (row : List Code) where
+  -- only inner nodes are changed
   pub changed_inner : (n : ℕ) → is_changed row n ≡ true → IsInner n
   unfolding is_changed
   changed_inner n e = inner_is n (and_parts (is_inner n) (stands_within is_change_code row n) e).0
@@ -101,6 +105,7 @@ module _ (row : List Code) where
       and_from (is_inner n) (stands_within is_change_code row n) (inner_from n i)
       (stands_up is_change_code row m n i.0 w below)
 
+  -- exactly the inner nodes with somebody arriving or departing beneath them are changed
   pub changed_iff : (n : ℕ) → IsTrue (is_changed row n) ↔ (IsInner n × SomeBeneath is_change_code row n)
   unfolding is_changed
   changed_iff n = (
@@ -113,27 +118,33 @@ module _ (row : List Code) where
         ((stands_iff is_change_code row n w.0).1 w.1),
   )
 
+  -- an inner node is occupied exactly where somebody is beneath it after the change
   pub occupied_iff : (n : ℕ) → IsInner n → IsTrue (is_occupied row n) ↔ (SomeBeneath is_occupied_after row n)
   unfolding is_occupied
   occupied_iff n i = stands_iff is_occupied_after row n i
 
+  -- a leaf is occupied as its own code says
   pub occupied_leaf : (u : ℕ) → IsLeaf u → is_occupied row u ≡ is_occupied_after (code_at row u)
   unfolding is_occupied
   occupied_leaf u l = stands_leaf is_occupied_after row u l
 
+  -- above an occupied node all nodes are occupied
   pub occupied_up : (m n : ℕ) → 0 < n → IsWithin m n → is_occupied row m ≡ true → is_occupied row n ≡ true
   unfolding is_occupied
   occupied_up m n o w e = stands_up is_occupied_after row m n o w e
 
+  -- where the former key serves, somebody stays within the node and nobody departs
   pub former_is : (n : ℕ) → former_serves row n ≡ true → (stands_within is_stay_code row n ≡ true) × (stands_within is_departure_code row n ≡ false)
   former_is n e =
       let p = and_parts (stands_within is_stay_code row n) (not (stands_within is_departure_code row n)) e in
       (p.0, not-true (stands_within is_departure_code row n) p.1)
 
+  -- a changed node is in the list of the changed ones
   pub changed_in : (n : ℕ) → is_changed row n ≡ true → In n (changed_nodes row)
   unfolding changed_nodes inner_nodes
   changed_in n e = let i = changed_inner n e in kept_in (is_changed row) (countdown 127) n (falling_in 127 n i.0 (omega arith)) e
 
+  -- each node of that list is changed
   pub in_changed : (n : ℕ) → In n (changed_nodes row) → is_changed row n ≡ true
   unfolding changed_nodes inner_nodes
   in_changed n h = (in_kept (is_changed row) (countdown 127) n h).1
@@ -142,18 +153,22 @@ module _ (row : List Code) where
   unfoldable pub changed_nodes_up_to : ℕ → List ℕ
   changed_nodes_up_to k = filter (is_changed row) (countdown k)
 
+  -- up to 0, there are none
   pub changed_none : changed_nodes_up_to 0 ≡ []
   unfolding changed_nodes_up_to
   changed_none = refl
 
+  -- a changed node comes in front of the smaller ones
   pub changed_yes : (k : ℕ) → is_changed row (suc k) ≡ true → changed_nodes_up_to (suc k) ≡ suc k ∷ changed_nodes_up_to k
   unfolding changed_nodes_up_to
   changed_yes k e = rw e refl
 
+  -- an unchanged node adds nothing
   pub changed_no : (k : ℕ) → is_changed row (suc k) ≡ false → changed_nodes_up_to (suc k) ≡ changed_nodes_up_to k
   unfolding changed_nodes_up_to
   changed_no k e = rw e refl
 
+  -- up to 127, they are all the changed nodes
   pub changed_all : changed_nodes_up_to 127 ≡ changed_nodes row
   unfolding changed_nodes_up_to changed_nodes inner_nodes
   changed_all = refl

@@ -19,6 +19,7 @@ standing_zero row =
     let d = stands_zero is_departure_code row in
     cc
 
+-- at a leaf stands what its own code says
 pub standing_leaf : (row : List Code) (u : ℕ) → IsLeaf u → standing_at row u ≡ standing_of (code_at row u)
 unfolding is_occupied
 standing_leaf row u l =
@@ -28,6 +29,7 @@ standing_leaf row u l =
     let d = stands_leaf is_departure_code row u l in
     cc
 
+-- at an inner node stands what stands at either of its children
 pub standing_inner : (row : List Code) (n : ℕ) → IsInner n → standing_at row n ≡ standing_or (standing_at row (2 * n)) (standing_at row (2 * n + 1))
 unfolding is_occupied
 standing_inner row n i =
@@ -43,6 +45,7 @@ pub record IsRightFrom (n : ℕ) (row : List Code) (table : List Standing) : Typ
   pub zero_none : get_or table 0 empty_standing ≡ empty_standing
   pub right : (k : ℕ) → n ≤ k → k < 256 → get_or table k empty_standing ≡ standing_at row k
 
+-- a table in which nothing stands is right from 256 on, behind all nodes
 pub right_none : (row : List Code) (s : Standing) → s ≡ empty_standing → IsRightFrom 256 row (replicate 256 s)
 right_none row s e = rw e (record { long = refl; zero_none = refl; right = λ k lo hi. absurd (omega arith) })
 
@@ -60,6 +63,7 @@ right_more row table n s l h e r = record {
   ];
 }
 
+-- a table that is right from node 1 on is right at every number
 pub right_all : (row : List Code) (table : List Standing) (n : ℕ) → n ≤ 1 → IsRightFrom n row table → IsStandingTable row table
 right_all row table n h r k hi = elim (cases_lt 0 k) [
   | inl l ↦ r.right k (omega arith) hi

@@ -10,9 +10,11 @@ use Rattle.aes.specs.Laws.{Permutes}
 use Rattle.wrap_rules.specs.KeyWrap.{initial_value, blocks, wrap_steps, unwrap_steps, recovered_content, key_wrap, key_unwrap}
 use Rattle.wrap_rules.proofs.KeyWrapSteps.{steps_sized, unsteps_sized, unsteps_steps, steps_unsteps}
 
+-- for a content of 32 bytes the register starts as 40
 start_sized : (p : List ℕ) → IsSized 32 p → IsSized 40 (initial_value ++ p)
 start_sized p h = append_sized 8 32 40 initial_value p refl (refl, replicate_bytes 8 0xA6 (lit< tt)) h
 
+-- the start for p gives p back
 recovered_start : (p : List ℕ) → IsSized 32 p → recovered_content (initial_value ++ p) ≡ Some p
 recovered_start p h = ap Some (last_part initial_value p 8 32 refl h.0)
 
@@ -29,16 +31,19 @@ recovered_some s p h = go (is_same (blocks 0 1 s) initial_value) refl
         )
 
 module _ (key : List ℕ) (a : Permutes key) where
+  -- 32 bytes are wrapped as 40
   pub wrap_sized : (p : List ℕ) → IsSized 32 p → IsSized 40 (key_wrap key p)
   unfolding key_wrap
   wrap_sized p h = steps_sized key a 24 (initial_value ++ p) (lit< tt) (start_sized p h)
 
+  -- unwrapping gives back what was wrapped
   pub unwrap_wrap : (p : List ℕ) → IsSized 32 p → key_unwrap key (key_wrap key p) ≡ Some p
   unfolding key_wrap key_unwrap
   unwrap_wrap p h =
       ap recovered_content (unsteps_steps key a 24 (initial_value ++ p) (lit< tt) (start_sized p h))
       ∙ recovered_start p h
 
+  -- what unwraps to p is the wrap of p, and p has 32 bytes
   pub unwrap_only : (z p : List ℕ) → IsSized 40 z → key_unwrap key z ≡ Some p → IsSized 32 p × (key_wrap key p ≡ z)
   unfolding key_wrap key_unwrap
   unwrap_only z p h o =

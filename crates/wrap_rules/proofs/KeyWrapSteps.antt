@@ -11,26 +11,32 @@ use Rattle.aes.specs.Cipher.{encrypt, decrypt}
 use Rattle.aes.specs.Laws.{Permutes}
 use Rattle.wrap_rules.specs.KeyWrap.{blocks, word64, wrap_step, unwrap_step, wrap_steps, unwrap_steps}
 
+-- after no step the register is as it was
 pub steps_none : (e : List ℕ → List ℕ) (s : List ℕ) → s ≡ wrap_steps e 0 s
 unfolding wrap_steps
 steps_none e s = refl
 
+-- step t + 1 comes after the steps 1 to t
 pub steps_more : (e : List ℕ → List ℕ) (t : ℕ) (s : List ℕ) → wrap_step e (t + 1) (wrap_steps e t s) ≡ wrap_steps e (t + 1) s
 unfolding wrap_steps
 steps_more e t s = rw (add-one t)
 
+-- after no step back the register is as it was
 pub unsteps_none : (d : List ℕ → List ℕ) (s : List ℕ) → s ≡ unwrap_steps d 0 s
 unfolding unwrap_steps
 unsteps_none d s = refl
 
+-- step t + 1 back comes before the steps t to 1 back
 pub unsteps_more : (d : List ℕ → List ℕ) (t : ℕ) (s : List ℕ) → unwrap_steps d t (unwrap_step d (t + 1) s) ≡ unwrap_steps d (t + 1) s
 unfolding unwrap_steps
 unsteps_more d t s = rw (add-one t)
 
+-- a step's number, as a block, is of bytes
 word_bytes : (t : ℕ) → t < 256 → IsBytes (word64 t)
 word_bytes t h = (lit< tt, (lit< tt, (lit< tt, (lit< tt, (lit< tt, (lit< tt, (lit< tt, (h, tt))))))))
 
 module _ (key : List ℕ) (a : Permutes key) where
+  -- a step makes a register of a register
   step_sized : (t : ℕ) (s : List ℕ) → t < 256 → IsSized 40 s → IsSized 40 (wrap_step (encrypt key) t s)
   unfolding wrap_step
   step_sized t s ht h =
@@ -47,12 +53,14 @@ module _ (key : List ℕ) (a : Permutes key) where
       (xors_sized 8 (take 8 s) (word64 t) (take_sized 8 40 s (lit≤ tt) h) (word_bytes t ht))
       (part_sized 8 32 40 s (lit≤ tt) h)
 
+  -- a step back makes a register of a register
   unstep_sized : (t : ℕ) (s : List ℕ) → t < 256 → IsSized 40 s → IsSized 40 (unwrap_step (decrypt key) t s)
   unfolding unwrap_step
   unstep_sized t s ht h =
       append_sized 16 24 40 (decrypt key (xors (take 8 s) (word64 t) ++ blocks 4 1 s)) (blocks 1 3 s) refl
       (a.decrypt_sized _ (block_sized t s ht h)) (part_sized 24 8 40 s (lit≤ tt) h)
 
+  -- a step back undoes the step of its number
   unstep_step : (t : ℕ) (s : List ℕ) → t < 256 → IsSized 40 s → unwrap_step (decrypt key) t (wrap_step (encrypt key) t s) ≡ s
   unfolding wrap_step unwrap_step
   unstep_step t s ht h =
@@ -73,6 +81,7 @@ module _ (key : List ℕ) (a : Permutes key) where
       (middle_part x m y 8 24 hx hm)
       ∙ two_parts 16 24 s h.0
 
+  -- a step undoes the step back of its number
   step_unstep : (t : ℕ) (s : List ℕ) → t < 256 → IsSized 40 s → wrap_step (encrypt key) t (unwrap_step (decrypt key) t s) ≡ s
   unfolding wrap_step unwrap_step
   step_unstep t s ht h =
@@ -94,16 +103,19 @@ module _ (key : List ℕ) (a : Permutes key) where
       ∙ ap (λ (q : List ℕ). take 8 s ++ q) (two_parts 24 8 (drop 8 s) (drop_sized 8 40 32 s refl h).0)
       ∙ take-append-drop 8 s
 
+  -- the steps make a register of a register
   pub steps_sized : (n : ℕ) (s : List ℕ) → n < 256 → IsSized 40 s → IsSized 40 (wrap_steps (encrypt key) n s)
   unfolding wrap_steps
   steps_sized zero s hn h = h
   steps_sized (suc n) s hn h = step_sized (suc n) (wrap_steps (encrypt key) n s) hn (steps_sized n s (omega arith) h)
 
+  -- the steps back make a register of a register
   pub unsteps_sized : (n : ℕ) (s : List ℕ) → n < 256 → IsSized 40 s → IsSized 40 (unwrap_steps (decrypt key) n s)
   unfolding unwrap_steps
   unsteps_sized zero s hn h = h
   unsteps_sized (suc n) s hn h = unsteps_sized n (unwrap_step (decrypt key) (suc n) s) (omega arith) (unstep_sized (suc n) s hn h)
 
+  -- the steps back undo the steps
   pub unsteps_steps : (n : ℕ) (s : List ℕ) → n < 256 → IsSized 40 s → unwrap_steps (decrypt key) n (wrap_steps (encrypt key) n s) ≡ s
   unfolding wrap_steps unwrap_steps
   unsteps_steps zero s hn h = refl
@@ -111,6 +123,7 @@ module _ (key : List ℕ) (a : Permutes key) where
       ap (unwrap_steps (decrypt key) n) (unstep_step (suc n) (wrap_steps (encrypt key) n s) hn (steps_sized n s (omega arith) h))
       ∙ unsteps_steps n s (omega arith) h
 
+  -- the steps undo the steps back
   pub steps_unsteps : (n : ℕ) (s : List ℕ) → n < 256 → IsSized 40 s → wrap_steps (encrypt key) n (unwrap_steps (decrypt key) n s) ≡ s
   unfolding wrap_steps unwrap_steps
   steps_unsteps zero s hn h = refl

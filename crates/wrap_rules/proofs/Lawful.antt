@@ -6,6 +6,7 @@ use Rattle.wrap_rules.specs.Meanings.{rfc_3394, rfc_5297}
 use Rattle.wrap_rules.proofs.KeyWrapLaw.{wrap_sized, unwrap_wrap, unwrap_only}
 use Rattle.wrap_rules.proofs.SivLaw.{siv_sized, open_siv_lem, open_only}
 
+-- the wrap of RFC 3394 is lawful
 pub rfc_3394_lawful : IsLawfulWrap rfc_3394
 rfc_3394_lawful = record {
   kind_range = (lit≤ tt, lit≤ tt);
@@ -15,6 +16,7 @@ rfc_3394_lawful = record {
   opened_was_sealed = λ k n z c hk hn hz o. unwrap_only k (permutes k hk.1) z c hz o;
 }
 
+-- the wrap of RFC 5297 is lawful
 pub rfc_5297_lawful : IsLawfulWrap rfc_5297
 rfc_5297_lawful = record {
   kind_range = (lit≤ tt, lit≤ tt);

@@ -12,6 +12,7 @@ use Rattle.wrap_rules.proofs.SivOpenings.{parts_only, exact}
 use Rattle.wrap_rules.proofs.SivSizes.{ctr_sized, s2v_sized}
 
 module _ (key name : List ℕ) where
+  -- 32 bytes are sealed as 48
   pub siv_sized : (p : List ℕ) → IsSized 32 key → IsBytes name → IsSized 32 p → IsSized 48 (siv key (name ∷ []) p)
   siv_sized p hk hn hp =
       let e₁ = encrypt (take 16 key) in
@@ -20,9 +21,11 @@ module _ (key name : List ℕ) where
       let hv = s2v_sized e₁ (permutes (take 16 key) (take_bytes 16 key hk.1)).encrypt_sized name p hn hp.1 in
       append_sized 16 32 48 v (ctr e₂ v p) refl hv (ctr_sized e₂ (permutes (drop 16 key) (drop_bytes 16 key hk.1)).encrypt_sized 32 v p hv hp)
 
+  -- opening gives back what was sealed
   pub open_siv_lem : (p : List ℕ) → siv_plaintext key (name ∷ []) (siv key (name ∷ []) p) ≡ Some p
   open_siv_lem p = (exact (encrypt (take 16 key)) (encrypt (drop 16 key)) (encrypt_length (take 16 key))).opens (name ∷ []) p
 
+  -- what opens to p is the sealing of p, and p has 32 bytes
   pub open_only : (z p : List ℕ) → IsSized 32 key → IsSized 48 z → siv_plaintext key (name ∷ []) z ≡ Some p → IsSized 32 p × (siv key (name ∷ []) p ≡ z)
   open_only z p hk hz o =
       let e₁ = encrypt (take 16 key) in

@@ -12,6 +12,7 @@ use Rattle.wrap_rules.specs.Laws.{IsExact}
 use Rattle.wrap_rules.proofs.Streams.{ctr_ctr}
 
 module _ (e₁ e₂ : List ℕ → List ℕ) (strings : List (List ℕ)) where
+  -- where the first cipher answers 16 numbers, so does S2V
   pub s2v_length : ((s : List ℕ) → length (e₁ s) ≡ 16) → (p : List ℕ) → length (s2v e₁ strings p) ≡ 16
   unfolding s2v
   s2v_length long p = cmac_length e₁ long (last_string (gathered_block e₁ (cmac e₁ zeros) strings) p)
@@ -26,6 +27,7 @@ module _ (e₁ e₂ : List ℕ → List ℕ) (strings : List (List ℕ)) where
           (ap (s2v e₁ strings) (sym same_text) ∙ same_lists (s2v e₁ strings (ctr e₂ v c)) v s, same_text)
       go false s h = let z : ◌≡◌ {A = ℕ} 0 1 = cc in absurd (omega arith)
 
+-- where the first cipher answers 16 numbers, opening accepts exactly what sealing gives
 pub exact : (e₁ e₂ : List ℕ → List ℕ) → ((s : List ℕ) → length (e₁ s) ≡ 16) → IsExact e₁ e₂
 exact e₁ e₂ long = record {
   opens = λ strings p.

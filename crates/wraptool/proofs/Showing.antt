@@ -2,6 +2,7 @@
 use Rattle.std.proofs.Common.{◌≡◌, ℕ, zero, suc, ◌+◌, ◌<◌, List, [], ◌∷◌, ◌++◌, length, get_or, take, refl, ap, ◌∙◌, arith}
 use Rattle.wraptool.specs.Digits.{two_digits, hex_digits}
 
+-- one byte more is shown by its two digits behind the others
 pub shown_more : (xs : List ℕ) (i : ℕ) → i < length xs → hex_digits (take (i + 1) xs) ≡ hex_digits (take i xs) ++ two_digits (get_or xs i 0)
 shown_more [] i h = absurd (omega arith)
 shown_more (x ∷ xs) zero h = refl

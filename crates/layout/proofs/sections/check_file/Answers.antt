@@ -5,9 +5,12 @@ use Rattle.layout.proofs.sections.check_file.Goals as goal
 use Rattle.layout.proofs.sections.check_file.Goals.{After-head, After-nodes, After-count, After-wraps}
 
 -- what each part answers, in the file's own bytes and at the values that the parts before it gave
+
+-- the check of the head, at the beginning of the file
 head : (c : After-head) → c.head.result ≡ head_answer c.args.kind c.args.sealed_len c.args.bytes.now 0 0
 head c = rw c.new-file.ensures.bytes at (c.head.ensures c.new-file.ensures.first).answer
 
+-- the check of the changed nodes, behind the head
 nodes : (c : After-nodes) →
     c.nodes.result ≡ nodes_answer c.args.kind c.args.sealed_len c.args.bytes.now c.in_ok-epoch.epoch c.in_ok-epoch.count
 nodes c =
@@ -16,6 +19,7 @@ nodes c =
     let at : c.head.new.self.at ≡ 8 = omega (arith, (c.in_ok-epoch.ensures first).moved) in
     rw (same, at) at c.nodes.ensures.answer
 
+-- the check of the number of wraps, behind the changed nodes
 count : (c : After-count) →
     c.count.result ≡ count_answer c.args.kind c.args.sealed_len c.args.bytes.now c.in_ok-epoch.epoch c.in_ok-epoch.count
 count c =
@@ -26,6 +30,7 @@ count c =
     omega (arith, (c.in_ok-epoch.ensures first).moved, c.in_ok-nodes.ensures.moved) in
     rw (same, at) at c.count.ensures.answer
 
+-- the check of the wraps, behind their number
 wraps : (c : After-wraps) →
     c.wraps.result ≡
     wraps_answer c.args.kind c.args.sealed_len c.args.bytes.now c.in_ok-epoch.epoch c.in_ok-epoch.count c.in_ok-wraps.wraps
