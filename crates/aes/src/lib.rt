@@ -105,7 +105,8 @@ fn expand_words(w: &mut [u8], nk: usize)
     }
 }
 
-/// KEYEXPANSION: writes the key's schedule over `w`, 176 bytes for a key of 16 and 240 for one of 32.
+/// KEYEXPANSION: writes the key's schedule over `w`, 176 bytes for a key of 16 and 240 for one of
+/// 32.
 #[tactic(auto, using(crate::proofs::Words::key_expanded))]
 pub fn key_expansion<const N: usize>(key: [u8; N], w: &mut [u8])
     requires length { is_key_length N ≡ true }

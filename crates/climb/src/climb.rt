@@ -158,7 +158,8 @@ impl<W: Wrap> WayUp<'_, W> {
     }
 
     /// Follows the file from the leaf's parent to the root: the ring is written once, at the end.
-    /// Clears `work`.
+    /// Clears `work`. On the way come a wrap that does not open (18, with its index and the file's
+    /// epoch) and a listed node that the ring has no opener for (19, with the node).
     pub fn follow(&self, ring: &mut [u8], work: &mut [u8]) -> Result<(), ReadFault>
         requires working { WORKING_BYTES ≤ length work.old }
         requires ring { length ring.old ≡ RING_BYTES }

@@ -8,9 +8,9 @@ use layout::LayoutFault;
 /// Why a player did not read a file, in the order of the checks.
 #[derive(Clone, Copy, PartialEq, Eq, Debug)]
 pub enum ReadFault {
-    /// Fewer than 512 working bytes were lent.
+    /// Fewer than `WORKING_BYTES` working bytes were lent.
     ShortWorking,
-    /// The bytes that were lent as the ring are not 288.
+    /// The bytes that were lent as the ring are not `RING_BYTES`.
     NotARing,
     /// The bytes are not a rekey file of this wrap.
     Layout(LayoutFault),

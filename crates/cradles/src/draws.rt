@@ -9,7 +9,8 @@ use keys::NodeKey;
 use std::marker::Model;
 use tree::{Board, Code};
 
-/// What the change of a row draws: a key for each arrival, by rising cradle, then one for each changed node, by falling number.
+/// What the change of a row draws: a key for each arrival, by rising cradle, then one for each
+/// changed node, by falling number.
 #[derive(Drop)]
 pub struct Draws {
     row: [Code; 128],

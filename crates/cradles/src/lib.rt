@@ -1,4 +1,5 @@
-//! The cradles of a site: who is in each, what is noted for it, and what a publishing draws for them.
+//! The cradles of a site: who is in each, what is noted for it, and what a publishing draws for
+//! them.
 #![tactic(auto)]
 
 ghost use Rattle.std.specs.Prelude.{◌≡◌};

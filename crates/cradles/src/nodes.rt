@@ -1,4 +1,5 @@
-//! The nodes that a change touches, listed in the order of the draws, and what becomes of their keys.
+//! The nodes that a change touches, listed in the order of the draws, and what becomes of their
+//! keys.
 ghost use Rattle.std.specs.Prelude.{◌≡◌, ◌*◌, ◌<◌, ◌≤◌, if◌then◌else◌, [], ◌∷◌, ◌++◌, length, slice_set};
 ghost use Rattle.arrayvec.specs.ArrayVec.{array_vec_len};
 ghost use Rattle.tree.specs.Rows.{code_at, changed_nodes};
@@ -57,6 +58,7 @@ pub(crate) fn changed_nodes(board: &Board) -> ArrayVec<u8, 127>
     ensures { result.items ≡ changed_nodes board.now }
 {
     let mut nodes = ArrayVec::new();
+    // By number, since what is listed is the node and not its marks.
     for n in (1..128u8).rev() {
         list_if(&mut nodes, n, board.is_changed(n));
     }

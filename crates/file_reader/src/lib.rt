@@ -14,7 +14,8 @@ pub use file::RekeyFile;
 pub use iter::Wraps;
 pub use wraps::FileWrap;
 
-/// Handing out wraps by their index, from 0, or one after the other, gives all wraps of the file in their order.
+/// Handing out wraps by their index, from 0, or one after the other, gives all wraps of the file in
+/// their order.
 pub fn wraps_in_order()
     ensures { WrapsAreInOrder }
 {}

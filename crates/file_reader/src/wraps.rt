@@ -24,7 +24,9 @@ pub struct FileWrap<'a> {
 }
 
 impl FileWrap<'_> {
-    /// Opens the wrap under a key, writes the content's key to `place`, and clears `work`.
+    /// Opens the wrap under a key, writes the content's key to `place`, and clears `work`. The
+    /// checks are in this order: fewer than `WORKING_BYTES` of `work` (9, `work` is left as it is),
+    /// sealed bytes that do not open (18, with the wrap's index).
     pub fn open<W: Wrap>(
         self,
         wrap: &W,

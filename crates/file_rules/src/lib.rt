@@ -3,7 +3,8 @@
 
 ghost use Rattle.file_rules.specs.Laws.{FileLaws};
 
-/// What was written is read back, what is accepted was written, and the file of a lawful plan is one.
+/// What was written is read back, what is accepted was written, and the file of a lawful plan is
+/// one.
 pub fn file_laws()
     ensures { FileLaws }
 {}

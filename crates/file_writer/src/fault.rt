@@ -5,9 +5,9 @@ ghost use Rattle.file_writer.specs.Refusals.{write_refusal};
 /// Why a file was not written.
 #[derive(Clone, Copy, PartialEq, Eq, Debug)]
 pub enum WriteFault {
-    /// Fewer than 512 working bytes were lent.
+    /// Fewer than `WORKING_BYTES` working bytes were lent.
     ShortWorking,
-    /// The file does not fit in the buffer that was lent.
+    /// The file does not fit in the buffer that was lent; `needed` is its number of bytes.
     ShortFile { needed: usize },
 }
 

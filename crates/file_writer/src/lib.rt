@@ -36,7 +36,9 @@ impl Change<'_> {
         file_len(wrap, self.nodes.len(), self.plan.len())
     }
 
-    /// Writes its file to the front of `file`, clears `work`, and answers how many bytes the file has.
+    /// Writes its file to the front of `file`, clears `work`, and answers how many bytes the file
+    /// has. The checks are in this order: fewer than `WORKING_BYTES` of `work` (9, `work` is left
+    /// as it is), too short a buffer (12, with the bytes needed).
     pub fn write<W: Wrap>(
         self,
         wrap: &W,

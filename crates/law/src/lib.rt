@@ -1,4 +1,5 @@
-//! Runs of a server from its beginning on, the site book and the players beside them, and whom a group key belongs to.
+//! Runs of a server from its beginning on, the site book and the players beside them, and whom a
+//! group key belongs to.
 #![tactic(auto)]
 
 ghost use Rattle.law.specs.Law.{EveryRun};

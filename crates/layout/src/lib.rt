@@ -17,7 +17,8 @@ mod sections;
 pub use fault::LayoutFault;
 pub use head::lists;
 
-/// Checks that `bytes` are a rekey file with wraps of this kind.
+/// Checks that `bytes` are a rekey file with wraps of this kind. Bytes that are not one are refused
+/// (15, with the place of the first fault).
 pub fn check<W: Wrap>(wrap: &W, bytes: &[u8]) -> Result<(), LayoutFault>
     ensures answer { verdict_of layout_refusal result ≡
         check_verdict W.meaning.kind W.meaning.length bytes.now }

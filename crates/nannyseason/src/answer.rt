@@ -7,8 +7,8 @@ use layout::LayoutFault;
 use player::{EnrolFault, ReadFault, RingFault};
 use wrap::WrapFault;
 
-/// What a call answers: 0 where it was done, else the number of its refusal; and the first two values
-/// of the refusal, 0 where there are fewer.
+/// What a call answers: 0 where it was done, else the number of its refusal; and the first two
+/// values of the refusal, 0 where there are fewer.
 #[repr(C)]
 #[derive(Clone, Copy)]
 pub struct Answer {

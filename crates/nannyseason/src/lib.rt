@@ -1,6 +1,6 @@
-//! The player and the two key wraps for C, as include/nannyseason.h declares them. Each function is the
-//! call that it is named after. Beyond the refusals of that call it refuses as misuse what the Rust types
-//! of the call turn down.
+//! The player and the two key wraps for C, as include/nannyseason.h declares them. Each function is
+//! the call that it is named after. Beyond the refusals of that call it refuses as misuse what the
+//! Rust types of the call turn down.
 #![tactic(auto)]
 
 ghost use Rattle.std.specs.Prelude.{◌≡◌, Some};
@@ -24,7 +24,10 @@ pub use player::Stored;
 use players::{ReadJob, keep, restore_from};
 use wraps::{OpenJob, SealJob, misuse_answer};
 
-/// Seals `content` by the wrap of that kind.
+/// Seals `content` by the wrap of that kind, and clears `work`. The checks are in this order: a
+/// kind that is neither 1 nor 2, or a key, name or content that is not 32, 10 and 32 bytes long
+/// (64), fewer than `WORKING_BYTES` of `work` (9, `work` is left as it is), too short a `sealed`
+/// (12, with the bytes needed).
 #[unsafe(no_mangle)]
 pub extern "C" fn nannyseason_seal(
     kind: u8,
@@ -55,7 +58,10 @@ pub extern "C" fn nannyseason_seal(
     kind.run(&mut job)
 }
 
-/// Opens `sealed` by the wrap of that kind, and writes what was sealed to `content`.
+/// Opens `sealed` by the wrap of that kind, writes what was sealed to `content`, and clears `work`.
+/// The checks are in this order: a kind that is neither 1 nor 2, or a key, name or content that is
+/// not 32, 10 and 32 bytes long (64), fewer than `WORKING_BYTES` of `work` (9, `work` is left as it
+/// is), bytes of another length or that no sealing wrote (18).
 #[unsafe(no_mangle)]
 pub extern "C" fn nannyseason_open(
     kind: u8,
@@ -86,7 +92,9 @@ pub extern "C" fn nannyseason_open(
     kind.run(&mut job)
 }
 
-/// Enrols the player that a card is for.
+/// Enrols the player that a card is for. The checks are in this order: a ring that is not
+/// `RING_BYTES` long (14), bytes that are not a card, which has `CARD_BYTES` (13, with the place of
+/// the first fault).
 #[unsafe(no_mangle)]
 pub extern "C" fn nannyseason_enrol(card: &[u8], stored: &mut Stored, ring: &mut [u8]) -> Answer
     ensures answer { result ≡ verdict_answer (enrol_verdict card.now ring.old) }
@@ -100,7 +108,13 @@ pub extern "C" fn nannyseason_enrol(card: &[u8], stored: &mut Stored, ring: &mut
     }
 }
 
-/// Reads a file, whose wraps are of that kind, into the ring of the player.
+/// Reads a file, whose wraps are of that kind, into the ring of the player, and clears `work`. The
+/// checks are in this order: a kind that is neither 1 nor 2, numbers that no player has, or a wiped
+/// player (64), fewer than `WORKING_BYTES` of `work` (9, `work` is left as it is), a ring that is
+/// not `RING_BYTES` long (14), bytes that are not a rekey file of this wrap (15, with the place of
+/// the first fault), an epoch that is too low (16) or too high (17, both with the epoch wanted). On
+/// the way up come a wrap that does not open (18, with its index and the file's epoch) and a listed
+/// node that the ring has no opener for (19, with the node).
 #[unsafe(no_mangle)]
 pub extern "C" fn nannyseason_read(
     kind: u8,
@@ -132,7 +146,9 @@ pub extern "C" fn nannyseason_read(
     kind.run(&mut job)
 }
 
-/// Writes the group key of a seated player to `key`.
+/// Writes the group key of a seated player to `key`. The checks are in this order: a `key` that is
+/// not 32 bytes long, numbers that no player has, or a player that is not seated (64), a ring that
+/// is not `RING_BYTES` long (14).
 #[unsafe(no_mangle)]
 pub extern "C" fn nannyseason_show(stored: &Stored, ring: &[u8], key: &mut [u8]) -> Answer
     ensures answer { result ≡ verdict_answer (show_call_verdict stored.now ring.now key.old) }
@@ -154,7 +170,8 @@ pub extern "C" fn nannyseason_show(stored: &Stored, ring: &[u8], key: &mut [u8])
     }
 }
 
-/// Makes zeros of the ring of a player that is not wiped.
+/// Makes zeros of the ring of a player that is not wiped. The checks are in this order: numbers
+/// that no player has, or a wiped player (64), a ring that is not `RING_BYTES` long (14).
 #[unsafe(no_mangle)]
 pub extern "C" fn nannyseason_wipe(stored: &mut Stored, ring: &mut [u8]) -> Answer
     ensures answer { result ≡ verdict_answer (stored_call_verdict (Some wipe) stored.old ring.old) }

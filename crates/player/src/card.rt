@@ -39,8 +39,10 @@ fn read_card(card: &[u8]) -> Result<Waiting, EnrolFault>
     })
 }
 
-/// Enrols the player that a card is for: the card's epoch and key become the ring's first entry, and
-/// the rest of the ring zeros.
+/// Enrols the player that a card is for: the card's epoch and key become the ring's first entry,
+/// and the rest of the ring zeros. The checks are in this order: a ring that is not `RING_BYTES`
+/// long (14), bytes that are not a card, which has `CARD_BYTES` (13, with the place of the first
+/// fault).
 pub fn enrol(card: &[u8], ring: &mut [u8]) -> Result<Waiting, EnrolFault>
     ensures answer { verdict_of enrol_refusal result ≡ enrol_verdict card.now ring.old }
     ensures ring { ring.new ≡ ring_after_enrol card.now ring.old }

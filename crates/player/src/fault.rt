@@ -5,7 +5,7 @@ ghost use Rattle.player.specs.Refusals.{enrol_refusal, ring_refusal};
 /// Why a player was not enrolled.
 #[derive(Clone, Copy, PartialEq, Eq, Debug)]
 pub enum EnrolFault {
-    /// The bytes that were lent as the ring are not 288.
+    /// The bytes that were lent as the ring are not `RING_BYTES`.
     NotARing,
     /// The bytes are not a card: the place of the first fault.
     Card { place: usize },
@@ -26,7 +26,7 @@ impl EnrolFault {
 /// Why the group key was not shown, or the ring not wiped.
 #[derive(Clone, Copy, PartialEq, Eq, Debug)]
 pub enum RingFault {
-    /// The bytes that were lent as the ring are not 288.
+    /// The bytes that were lent as the ring are not `RING_BYTES`.
     NotARing,
 }
 

@@ -23,7 +23,12 @@ impl Seated {
         self.epoch
     }
 
-    /// Reads the file of the next epoch into the ring, and clears `work`.
+    /// Reads the file of the next epoch into the ring, and clears `work`. The checks are in this
+    /// order: fewer than `WORKING_BYTES` of `work` (9, `work` is left as it is), a ring that is not
+    /// `RING_BYTES` long (14), bytes that are not a rekey file of this wrap (15, with the place of
+    /// the first fault), an epoch that is too low (16) or too high (17, both with the epoch
+    /// wanted). On the way up come a wrap that does not open (18, with its index and the file's
+    /// epoch) and a listed node that the ring has no opener for (19, with the node).
     pub fn read<W: Wrap>(
         self,
         wrap: &W,
@@ -56,14 +61,14 @@ impl Seated {
         }
     }
 
-    /// The group key in the ring.
+    /// The group key in the ring. A ring that is not `RING_BYTES` long is refused (14).
     pub fn show(&self, ring: &[u8]) -> Result<[u8; 32], RingFault>
         ensures { verdict_of ring_refusal result ≡ show_verdict ring.now }
     {
         group_key(ring)
     }
 
-    /// Makes zeros of the ring.
+    /// Makes zeros of the ring. A ring that is not `RING_BYTES` long is refused (14).
     pub fn wipe(self, ring: &mut [u8]) -> Result<Wiped, Refused<Seated, RingFault>>
         ensures answer { move_verdict ring_refusal result ≡ wipe_verdict ring.old }
         ensures player { moved_player states.wiped states.seated result

@@ -15,7 +15,12 @@ use climb::ReadFault;
 use wrap::Wrap;
 
 impl Waiting {
-    /// Reads the file of its epoch into the ring, and clears `work`.
+    /// Reads the file of its epoch into the ring, and clears `work`. The checks are in this order:
+    /// fewer than `WORKING_BYTES` of `work` (9, `work` is left as it is), a ring that is not
+    /// `RING_BYTES` long (14), bytes that are not a rekey file of this wrap (15, with the place of
+    /// the first fault), an epoch that is too low (16) or too high (17, both with the epoch
+    /// wanted). On the way up come a wrap that does not open (18, with its index and the file's
+    /// epoch) and a listed node that the ring has no opener for (19, with the node).
     pub fn read<W: Wrap>(
         self,
         wrap: &W,
@@ -47,7 +52,7 @@ impl Waiting {
         }
     }
 
-    /// Makes zeros of the ring.
+    /// Makes zeros of the ring. A ring that is not `RING_BYTES` long is refused (14).
     pub fn wipe(self, ring: &mut [u8]) -> Result<Wiped, Refused<Waiting, RingFault>>
         ensures answer { move_verdict ring_refusal result ≡ wipe_verdict ring.old }
         ensures player { moved_player states.wiped states.waiting result

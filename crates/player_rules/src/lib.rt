@@ -1,4 +1,5 @@
-//! What a player is, and what its calls make of it and of its ring: definitions for contracts, and laws about them.
+//! What a player is, and what its calls make of it and of its ring: definitions for contracts, and
+//! laws about them.
 #![tactic(auto)]
 
 ghost use Rattle.player_rules.specs.Laws.{PlayerLaws};

@@ -8,11 +8,12 @@ use tree::PlanFault;
 /// Why an arrival was not noted.
 #[derive(Clone, Copy, PartialEq, Eq, Debug)]
 pub enum AdmitFault {
-    /// The serial is not one of 1 to 9,999.
+    /// The serial is not one of 1 to `LAST_SERIAL`.
     NoSerial,
-    /// The cradle is not one of 1 to 128.
+    /// The cradle is not one of 1 to `CRADLES`.
     NoCradle,
-    /// The scanner holds that cradle: it is in it without a noted departure, or noted to arrive there.
+    /// The scanner holds that cradle: it is in it without a noted departure, or noted to arrive
+    /// there.
     SerialHeld { cradle: u8 },
     /// The cradle is held by that scanner.
     CradleHeld { serial: u16 },
@@ -35,7 +36,7 @@ impl AdmitFault {
 /// Why a departure was not noted.
 #[derive(Clone, Copy, PartialEq, Eq, Debug)]
 pub enum RemoveFault {
-    /// The serial is not one of 1 to 9,999.
+    /// The serial is not one of 1 to `LAST_SERIAL`.
     NoSerial,
     /// The scanner is in no cradle.
     NotSeated,
@@ -59,11 +60,11 @@ impl RemoveFault {
 /// Why a card was not written.
 #[derive(Clone, Copy, PartialEq, Eq, Debug)]
 pub enum CardFault {
-    /// The serial is not one of 1 to 9,999.
+    /// The serial is not one of 1 to `LAST_SERIAL`.
     NoSerial,
     /// The scanner is in no cradle.
     NotSeated,
-    /// The card does not fit in the buffer that was lent, in bytes.
+    /// The card does not fit in the buffer that was lent; `needed` is its number of bytes.
     ShortCard { needed: usize },
 }
 
@@ -85,15 +86,15 @@ impl CardFault {
 pub enum PublishFault {
     /// Nothing is noted.
     NothingNoted,
-    /// The server is in its last epoch, 1,000,000.
+    /// The server is in its last epoch, `LAST_EPOCH`.
     LastEpoch,
-    /// Fewer than 512 working bytes were lent.
+    /// Fewer than `WORKING_BYTES` working bytes were lent.
     ShortWorking,
-    /// The material is shorter than what is to be drawn, in bytes.
+    /// The material is shorter than what is to be drawn; `needed` is the number of bytes of that.
     ShortMaterial { needed: usize },
-    /// The plan does not fit in the pair buffer that was lent, in pairs.
+    /// The plan does not fit in the pair buffer that was lent; `needed` is its number of pairs.
     ShortPairs { needed: usize },
-    /// The file does not fit in the file buffer that was lent, in bytes.
+    /// The file does not fit in the file buffer that was lent; `needed` is its number of bytes.
     ShortFile { needed: usize },
 }
 

@@ -29,8 +29,8 @@ use tree::{Pair, Strategy};
 use wrap::Wrap;
 
 impl Server {
-    /// A new server. Whatever is called on it, the group key of an epoch belongs to its members: it is reached by nobody else, and each
-    /// of their players holds it.
+    /// A new server. Whatever is called on it, the group key of an epoch belongs to its members: it
+    /// is reached by nobody else, and each of their players holds it.
     #[tactic(auto, using(law::proofs::EveryRun::every_run, law::proofs::Servers::new_kept))]
     pub fn new() -> Server
         ensures server { result ≡ new_state }
@@ -45,7 +45,10 @@ impl Server {
         }
     }
 
-    /// Notes that a scanner arrives at a cradle.
+    /// Notes that a scanner arrives at a cradle. The checks are in this order: a serial that is not
+    /// one of 1 to `LAST_SERIAL` (1), a cradle that is not one of 1 to `CRADLES` (2), a scanner
+    /// that holds a cradle (3, with the cradle), a cradle that is held (4, with the serial of its
+    /// holder).
     pub fn admit(&mut self, serial: u32, cradle: u32) -> Result<(), AdmitFault>
         ensures answer { verdict_of admit_refusal result ≡ admit_verdict self.old serial cradle }
         ensures server { self.new ≡ server_after self.old (admit serial cradle) }
@@ -53,7 +56,9 @@ impl Server {
         notes::admit(&mut self.state, serial, cradle)
     }
 
-    /// Notes that a scanner departs from its cradle.
+    /// Notes that a scanner departs from its cradle. The checks are in this order: a serial that is
+    /// not one of 1 to `LAST_SERIAL` (1), a scanner that is in no cradle (5), a departure that is
+    /// noted already (6).
     pub fn remove(&mut self, serial: u32) -> Result<(), RemoveFault>
         ensures answer { verdict_of remove_refusal result ≡ remove_verdict self.old serial }
         ensures server { self.new ≡ server_after self.old (remove serial) }
@@ -68,8 +73,12 @@ impl Server {
         notes::drop_notes(&mut self.state)
     }
 
-    /// Carries out the notes: draws the new keys from `material`, and writes the plan and the rekey file of the change. Clears the notes
-    /// and `work`.
+    /// Carries out the notes: draws the new keys from `material`, and writes the plan and the rekey
+    /// file of the change. Clears the notes and `work`. The checks are in this order: nothing is
+    /// noted (7), the epoch is `LAST_EPOCH` (8), fewer than `WORKING_BYTES` of `work` (9, `work` is
+    /// left as it is), too short material (10, with the bytes needed), too few `pairs` (11, with
+    /// the pairs needed; `MOST_PAIRS` are always enough), too short a `file` (12, with the bytes
+    /// needed; `pairs` then has the plan).
     pub fn publish<S: Strategy, W: Wrap>(
         &mut self,
         strategy: &S,
@@ -96,7 +105,9 @@ impl Server {
         publish::publish(&mut self.state, strategy, wrap, material, pairs, file, work)
     }
 
-    /// Writes the card of a scanner that is in a cradle to the front of `buffer`.
+    /// Writes the card of a scanner that is in a cradle to the front of `buffer`. The checks are in
+    /// this order: a serial that is not one of 1 to `LAST_SERIAL` (1), a scanner that is in no
+    /// cradle (5), fewer than `CARD_BYTES` of `buffer` (12, with the bytes needed).
     pub fn card(&self, serial: u32, buffer: &mut [u8]) -> Result<(), CardFault>
         ensures answer { verdict_of card_refusal result ≡ card_verdict self.now serial buffer.old }
         ensures written { buffer.new ≡ buffer_after_card self.now serial buffer.old }

@@ -2,7 +2,8 @@
 use server_rules::State;
 use std::marker::Model;
 
-/// The key server of a site: its epoch, who is in its cradles and what is noted for them, and the keys of the tree.
+/// The key server of a site: its epoch, who is in its cradles and what is noted for them, and the
+/// keys of the tree.
 #[derive(Drop)]
 pub struct Server {
     pub(crate) state: State,

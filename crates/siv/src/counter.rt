@@ -33,7 +33,8 @@ fn increment(q: [u8; 16]) -> [u8; 16]
     block_of(plus_one(number_of(q)))
 }
 
-/// Adds the key stream that starts at the IV `v` to the text, in place; a second time takes it back.
+/// Adds the key stream that starts at the IV `v` to the text, in place; a second time takes it
+/// back.
 #[tactic(auto, using(wrap_rules::proofs::Streams::stream_none, wrap_rules::proofs::Streams::stream_more, wrap_rules::proofs::Streams::stream_all, wrap_rules::proofs::Streams::ctr_ctr))]
 pub fn ctr(w: Schedule<'_>, v: [u8; 16], text: &mut [u8])
     ensures added { text.new ≡ ctr_of (cipher_of w.entry) v text.old }

@@ -35,7 +35,8 @@ pub struct Halves<'a> {
 }
 
 impl<'a> Halves<'a> {
-    /// The schedules of a key's halves, written over `w1` and `w2`, which a caller may have in two places.
+    /// The schedules of a key's halves, written over `w1` and `w2`, which a caller may have in two
+    /// places.
     pub fn expand(key: [u8; 32], w1: &'a mut [u8], w2: &'a mut [u8]) -> Halves<'a>
         requires room1 { length w1.old ≡ 176 }
         requires room2 { length w2.old ≡ 176 }

@@ -1,3 +1,4 @@
+//! The laws that the product's wraps and strategies keep.
 ghost use Rattle.std.specs.Prelude.{◌≡◌};
 ghost use Rattle.wrap.specs.Meaning.{IsLawfulWrap};
 ghost use Rattle.wrap_rules.specs.Meanings.{rfc_3394, rfc_5297};
@@ -17,8 +18,8 @@ fn strategy_is_lawful<S: Strategy>()
     ensures { IsLawfulStrategy S.meaning }
 {}
 
-/// The wraps and strategies of the product keep the laws that the law over runs asks of a publishing: both wraps, of the kinds 1 and 2,
-/// and the three strategies.
+/// The wraps and strategies of the product keep the laws that the law over runs asks of a
+/// publishing: both wraps, of the kinds 1 and 2, and the three strategies.
 pub fn parts_are_lawful()
     ensures kinds { (⟦<KeyWrap as Wrap>⟧.meaning.kind ≡ 1) × (⟦<Siv as Wrap>⟧.meaning.kind ≡ 2) }
     ensures key_wrap_length { ⟦<KeyWrap as Wrap>⟧.meaning.length ≡ 40 }

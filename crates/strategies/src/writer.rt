@@ -53,7 +53,9 @@ impl PairList<'_> {
     }
 
     // The plan of a rule, behind what was laid: the changed nodes by falling number, so that a
-    // reader on its way up meets each key before the pairs that it opens.
+    // reader on its way up meets each key before the pairs that it opens. There are 127 inner
+    // nodes, with 256 candidates each (one former key, 255 present ones), so no more than 32768,
+    // which is 128 times 256, come to it; 65536 leaves room for them below `usize.MAX`.
     #[tactic(auto, using(crate::proofs::Laying::plans))]
     fn push_plan<R: Rule>(&mut self, board: &Board)
         requires { self.old.count ≤ 65536 }
@@ -86,7 +88,7 @@ fn lay<R: Rule>(board: &Board, out: &mut [Pair]) -> usize
     list.count
 }
 
-/// Writes the plan of a rule, or refuses if it does not fit.
+/// Writes the plan of a rule, or refuses if it does not fit (11, with the pairs needed).
 pub fn fill<R: Rule>(board: &Board, out: &mut [Pair]) -> Result<usize, PlanFault>
     ensures answer { verdict_of plan_refusal result
         ≡ strategy_verdict (plan R.rule board.now) out.old }

@@ -1,4 +1,5 @@
-//! What the three strategies mean: their plans, by rules, and that these are lawful. There is no code to run here.
+//! What the three strategies mean: their plans, by rules, and that these are lawful. There is no
+//! code to run here.
 #![tactic(auto)]
 
 ghost use Rattle.strategy_rules.specs.Lawfulness.{PlansAreLawful};

@@ -24,7 +24,9 @@ pub trait Strategy {
     // What the strategy means: its plan for each row.
     ghost meaning: { StrategyMeaning };
 
-    /// Writes the plan to the front of `pairs`, and answers how many pairs it has. The pairs are lent: no call allocates.
+    /// Writes the plan to the front of `pairs`, and answers how many pairs it has. The pairs are
+    /// lent: no call allocates. Too few are refused (11, with the pairs needed); `MOST_PAIRS` are
+    /// always enough.
     fn plan(&self, row: &[Code; 128], pairs: &mut [Pair]) -> Result<usize, PlanFault>
         ensures answer { verdict_of plan_refusal result
             ≡ strategy_verdict (meaning row.now) pairs.old }

@@ -49,6 +49,6 @@ pub struct Pair {
 /// Why a strategy's call was refused.
 #[derive(Clone, Copy, PartialEq, Eq, Debug)]
 pub enum PlanFault {
-    /// The plan does not fit in the pair buffer that was lent.
+    /// The plan does not fit in the pair buffer that was lent; `needed` is its number of pairs.
     ShortPairs { needed: usize },
 }

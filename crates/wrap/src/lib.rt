@@ -1,5 +1,5 @@
-//! The interface of a key wrap: sealing and opening a 32-byte key, the faults of both, and the guard
-//! over working bytes.
+//! The interface of a key wrap: sealing and opening a 32-byte key, the faults of both, and the
+//! guard over working bytes.
 #![tactic(auto)]
 
 ghost use Rattle.std.specs.Prelude.{◌≡◌, ◌≤◌, length};
@@ -20,7 +20,8 @@ pub trait Wrap {
     // What the wrap means: its kind, how many bytes a sealing writes, what it seals and opens.
     ghost meaning: { WrapMeaning };
 
-    /// The number that stands for this wrap in a file. A number, since there may be wraps of other kinds.
+    /// The number that stands for this wrap in a file. A number, since there may be wraps of other
+    /// kinds.
     fn kind(&self) -> u8
         ensures { result ≡ meaning.kind };
 
@@ -56,9 +57,9 @@ pub trait Wrap {
         ensures answer { result ≡ meaning.opens key name bytes.now }
         ensures cleared { work.new ≡ work_after work.old };
 
-    /// Seals `content` at the front of `out`, and clears `work`. The checks are in this order: fewer
-    /// than `WORKING_BYTES` of `work` (9, `work` is left as it is), too short a buffer (12, with the bytes
-    /// needed).
+    /// Seals `content` at the front of `out`, and clears `work`. The checks are in this order:
+    /// fewer than `WORKING_BYTES` of `work` (9, `work` is left as it is), too short a buffer (12,
+    /// with the bytes needed).
     final fn seal(
         &self,
         key: [u8; 32],
@@ -85,8 +86,9 @@ pub trait Wrap {
         Ok(())
     }
 
-    /// Opens `bytes`, writes their content to `place`, and clears `work`. Too few working bytes are
-    /// reported first (9); bytes of another length or that no sealing wrote do not open (18).
+    /// Opens `bytes`, writes their content to `place`, and clears `work`. The checks are in this
+    /// order: fewer than `WORKING_BYTES` of `work` (9, `work` is left as it is), bytes of another
+    /// length or that no sealing wrote (18).
     final fn open(
         &self,
         key: [u8; 32],

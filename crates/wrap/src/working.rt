@@ -5,8 +5,8 @@ ghost use Rattle.wrap.specs.Calls.{work_after};
 /// The least number of working bytes that a call takes, in bytes.
 pub const WORKING_BYTES: usize = 512;
 
-/// Working bytes, lent to a call: where there are enough of them, they hold zeros again whichever way
-/// the call ends.
+/// Working bytes, lent to a call: where there are enough of them, they hold zeros again whichever
+/// way the call ends.
 pub struct Working<'a> {
     pub bytes: &'a mut [u8],
 }
