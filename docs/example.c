@@ -19,7 +19,7 @@ static uint8_t ring[NANNYSEASON_RING_BYTES];
 /* Lent to each read; it holds zeros again afterwards. */
 static uint8_t work[NANNYSEASON_WORKING_BYTES];
 
-/* Whether the call was done; a refusal is told with its number and values. */
+/* Whether the call was done; a refusal is printed with its number and values. */
 static bool done(const char *step, nannyseason_answer answer)
 {
     if (answer.refusal == 0)

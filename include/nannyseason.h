@@ -3,8 +3,8 @@
  *
  * What holds of every call
  *
- *   A call answers with the number of a refusal, or with 0 if it was done, and with the values that are told with that
- *   refusal (0 where there are fewer than two).
+ *   A call answers with the number of a refusal, or with 0 if it was done, and with the values that are reported with
+ *   that refusal (0 where there are fewer than two).
  *
  *   A refused call leaves the player, the ring, and every buffer as they were, but for the working bytes.
  *   Where a call gets 512 working bytes or more, all of them hold zeros when it ends, whatever it answers. Where it gets
@@ -42,7 +42,7 @@ extern "C" {
 #define NANNYSEASON_RFC3394_SEALED_BYTES 40
 #define NANNYSEASON_RFC5297_SEALED_BYTES 48
 
-/* The refusals, and the values told with each. */
+/* The refusals, and the values reported with each. */
 #define NANNYSEASON_SHORT_WORKING 9  /* under 512 working bytes */
 #define NANNYSEASON_SHORT_BUFFER 12  /* the sealed bytes do not fit; first: how many bytes are needed */
 #define NANNYSEASON_BAD_CARD 13      /* no card; first: the place of the first fault */

@@ -35,7 +35,7 @@ static bool opens(int row)
     return row % 2 == 1;
 }
 
-/* One call: it gets an input and its row, writes into `out`, and tells whether it was done. */
+/* One call: it gets an input and its row, writes into `out`, and answers whether it was done. */
 typedef bool call(const input *in, int row, uint8_t *out);
 
 static bool by_library(const input *in, int row, uint8_t *out)
