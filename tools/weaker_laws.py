@@ -111,7 +111,7 @@ WEAKER = [
         "statements",
         ["refused_course", "player"],
         [
-            (PLAYERS, "IsAside a p ring = (a ≡ show) ⊎ (is_player_refused a p ring ≡ true)", "IsAside a p ring = a ≡ show"),
+            (PLAYERS, "IsAside a p ring = (a ≡ show) ⊎ IsTrue (is_player_refused a p ring)", "IsAside a p ring = a ≡ show"),
             (COURSES, "aside_keeps a l p ring (inl e) =", "aside_keeps a l p ring e ="),
             (COURSES, "  aside_keeps a own p ring (inr e) = laws.refused_keeps a p ring e\n", ""),
             (COURSES, "  aside_keeps a (other bytes) p ring (inr e) = ((laws.refused_keeps a p bytes e).0, refl)\n", ""),

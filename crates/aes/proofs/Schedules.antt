@@ -25,7 +25,7 @@ word_before w x n i long l =
 pub word_behind : (w x : List ℕ) (n : ℕ) → length w ≡ 4 * n → length x ≡ 4 → word (w ++ x) n ≡ x
 word_behind w x n long four = last_part w x (4 * n) 4 long four
 
--- strings of the same words are the same
+-- strings whose first n words are the same have the same first 4 n bytes
 same_front : (w v : List ℕ) (n : ℕ) → ((i : ℕ) → i < n → word w i ≡ word v i) → take (4 * n) w ≡ take (4 * n) v
 same_front w v zero h = refl
 same_front w v (suc n) h =
@@ -67,7 +67,7 @@ module _ (nk : ℕ) (some : 1 ≤ nk) (key : List ℕ) where
   unfolding next_word
   next_length w n past long = xors_length (word w (n - nk)) (temp nk n (word w (n - 1))) ∙ word_length w (n - nk) (omega (arith, long))
 
-  -- a key with n words more is so long, and its words are those of a schedule
+  -- a key with n words more has nk + n words, and they are those of a schedule
   expanded_rules : length key ≡ 4 * nk → (n : ℕ) → (length (expanded_key nk key n) ≡ 4 * (nk + n)) × IsScheduleTo (nk + n) (expanded_key nk key n)
   unfolding expanded_key
   expanded_rules long zero = (omega (arith, long), record { key_words = λ i l. refl; later_words = λ i p l. absurd (omega arith) })

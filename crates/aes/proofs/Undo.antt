@@ -7,7 +7,7 @@ use Rattle.aes.proofs.Steps.{sub_undo, inv_sub_undo, shift_undo, inv_shift_undo,
 use Rattle.aes.proofs.Steps.{mix_sized, inv_mix_sized}
 use Rattle.aes.specs.Cipher.{round_key, rounds, cipher, inv_rounds, inv_cipher}
 
--- what the last round does before its key is added, and its reverse
+-- what the last round does before its key is added
 round_start : List ℕ → List ℕ
 round_start s = shift_rows (sub_bytes s)
 

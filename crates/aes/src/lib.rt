@@ -1,7 +1,7 @@
 //! AES of FIPS 197 with keys of 16 and 32 bytes. The key schedule is lent bytes.
 #![tactic(auto)]
 
-ghost use Rattle.std.specs.Prelude.{◌≡◌, ◌+◌, ◌*◌, ◌/◌, ◌<◌, ◌≤◌, true, length, take, reverse};
+ghost use Rattle.std.specs.Prelude.{◌≡◌, ◌+◌, ◌*◌, ◌/◌, ◌<◌, ◌≤◌, length, take, reverse, IsTrue};
 ghost use Rattle.std.specs.List.{fold};
 ghost use Rattle.aes.specs.KeySchedule.{is_key_length, sub_word, rot_word, rcon, round_constant};
 ghost use Rattle.aes.specs.KeySchedule.{temp, next_word, expanded_key, key_expansion};
@@ -109,7 +109,7 @@ fn expand_words(w: &mut [u8], nk: usize)
 /// 32.
 #[tactic(auto, using(crate::proofs::Words::key_expanded))]
 pub fn key_expansion<const N: usize>(key: [u8; N], w: &mut [u8])
-    requires length { is_key_length N ≡ true }
+    requires length { IsTrue (is_key_length N) }
     requires room { length w.old ≡ 4 * N + 112 }
     ensures { w.new ≡ key_expansion key.entry }
 {
@@ -144,7 +144,7 @@ impl<'a> Schedule<'a> {
 
     /// The key's schedule, written over `w`.
     pub fn expand<const N: usize>(key: [u8; N], w: &'a mut [u8]) -> Schedule<'a>
-        requires length { is_key_length N ≡ true }
+        requires length { IsTrue (is_key_length N) }
         requires room { length w.old ≡ 4 * N + 112 }
         ensures bytes { result.bytes.now ≡ key_expansion key.entry }
         ensures rounds { result.rounds ≡ N / 4 + 6 }

@@ -56,7 +56,7 @@ part_sized k i m s l h = take_sized k _ (drop i s) (omega arith) (drop_sized i m
 pub two_parts : (a k : ℕ) (s : List ℕ) → length s ≡ a + k → take a s ++ take k (drop a s) ≡ s
 two_parts a k s h = ap (λ (l : List ℕ). take a s ++ l) (take_all k (drop a s) (omega (arith, length-drop a s))) ∙ take-append-drop a s
 
--- the last k bytes, and the k bytes behind the first n
+-- of n bytes and k more, the k bytes behind the first n are the last ones
 pub last_part : (x y : List ℕ) (n k : ℕ) → length x ≡ n → length y ≡ k → take k (drop n (x ++ y)) ≡ y
 last_part x y n k hx hy = ap (take k) (drop_at x y n hx) ∙ take_all k y (omega arith)
 

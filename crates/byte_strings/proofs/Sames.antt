@@ -68,10 +68,10 @@ gathered_all d (x ∷ a) (y ∷ b) h =
     ∙ ap (λ (t : Bool). t && is_same a b) (gathered d x y)
     ∙ and_assoc (eqb d 0) (eqb x y) (is_same a b)
 
--- the comparison of strings of one length, and of others
-pub same_gathered : (a b : List ℕ) (d : ℕ) → length a ≡ length b → d ≡ fold (λ bits p. bit_or bits (bit_xor p.0 p.1)) 0 (zip a b) → eqb d 0 ≡ is_same a b
-same_gathered a b d h e = ap (λ (n : ℕ). eqb n 0) e ∙ gathered_all 0 a b h
+-- strings of one length are the same where no bit differs in any place
+pub same_gathered : (a b : List ℕ) → length a ≡ length b → is_same a b ≡ eqb (fold (λ bits p. bit_or bits (bit_xor p.0 p.1)) 0 (zip a b)) 0
+same_gathered a b h = sym (gathered_all 0 a b h)
 
 -- strings of two lengths compare as different
-pub same_uneven : (a b : List ℕ) → (length a ≡ length b → ⊥) → false ≡ is_same a b
-same_uneven a b n = sym (unlike a b (λ e. n (ap length e)))
+pub same_uneven : (a b : List ℕ) → (length a ≡ length b → ⊥) → is_same a b ≡ false
+same_uneven a b n = unlike a b (λ e. n (ap length e))

@@ -61,6 +61,7 @@ fn differences(a: &[u8], b: &[u8]) -> u8
 
 /// Are the two strings the same? Where they are of one length, every byte is read, wherever they
 /// differ.
+#[tactic(auto, using(crate::proofs::Sames::same_gathered, crate::proofs::Sames::same_uneven))]
 pub fn equal(a: &[u8], b: &[u8]) -> bool
     ensures { result ≡ is_same a.now b.now }
 {

@@ -1,5 +1,5 @@
 -- Links, chains, and which names are reached: over names of any type, and any link between two.
-use Rattle.std.specs.Prelude.{◌≡◌, Bool, true, ◌⊎◌, List, [], ◌∷◌}
+use Rattle.std.specs.Prelude.{◌≡◌, Bool, ◌⊎◌, List, [], ◌∷◌, IsTrue}
 
 -- the two names of a link
 pub record LinkNames (Name : Type 0) : Type 0 where
@@ -30,21 +30,21 @@ module _ {Name : Type 0} where
 
 -- the names that pass a test, and the links that do
 abbrev pub Passes : {A : Type 0} → (A → Bool) → A → Type 0
-Passes test x = test x ≡ true
+Passes test x = IsTrue (test x)
 
 -- of names of a type: what is reached is the least that holds the set and is closed under links,
 -- for any set, links and property of names that can be tested
 pub record ReachLaws (Name : Type 0) : Type 0 where
   -- the set is reached
   pub start_reached : (start : Name → Bool) (link : Name → Name → Bool) (name : Name) →
-      start name ≡ true → IsReached (Passes start) (λ m. Passes (link m)) name
+      IsTrue (start name) → IsReached (Passes start) (λ m. Passes (link m)) name
   -- the content of a link is, if its opener is
   pub link_reached : (start : Name → Bool) (link : Name → Name → Bool) (opener content : Name) →
-      link opener content ≡ true → IsReached (Passes start) (λ m. Passes (link m)) opener →
+      IsTrue (link opener content) → IsReached (Passes start) (λ m. Passes (link m)) opener →
       IsReached (Passes start) (λ m. Passes (link m)) content
   -- and nothing else
   pub nothing_else : (start : Name → Bool) (link : Name → Name → Bool) (property : Name → Bool) →
-      ((name : Name) → start name ≡ true → property name ≡ true) →
-      ((opener content : Name) → link opener content ≡ true → property opener ≡ true →
-      property content ≡ true) →
-      (name : Name) → IsReached (Passes start) (λ m. Passes (link m)) name → property name ≡ true
+      ((name : Name) → IsTrue (start name) → IsTrue (property name)) →
+      ((opener content : Name) → IsTrue (link opener content) → IsTrue (property opener) →
+      IsTrue (property content)) →
+      (name : Name) → IsReached (Passes start) (λ m. Passes (link m)) name → IsTrue (property name)

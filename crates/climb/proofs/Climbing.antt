@@ -5,7 +5,7 @@ use Rattle.refusal.specs.Refusals.{Verdict}
 use Rattle.keys.specs.declared.NodeKey.{NodeKey}
 use Rattle.file_rules.specs.Files.{Rekey}
 use Rattle.wrap.specs.Meaning.{WrapMeaning}
-use Rattle.player_rules.specs.Climbs.{ring_after_level, verdict_then, ring_after_levels, ring_after_file}
+use Rattle.player_rules.specs.Climbs.{ring_after_level, verdict_and_then, ring_after_levels, ring_after_file}
 use Rattle.climb.specs.declared.fault.ReadFault.{ReadFault}
 use Rattle.climb.specs.Refusals.{read_refusal, verdict_with}
 
@@ -25,7 +25,7 @@ module _ (w : WrapMeaning) (f : Rekey) (leaf : ℕ) where
   climb_none k ring h = let e : 8 - k ≡ 0 = omega arith in ap (λ n. ring_after_levels w f leaf (range_with_len k n) ring) e
 
   -- the levels from k on are level k and then those above it
-  climb_more : (k : ℕ) (ring : List NodeKey) → k < 8 → ring_from_level k ring ≡ verdict_then (ring_after_level w f leaf k ring) (ring_from_level (k + 1))
+  climb_more : (k : ℕ) (ring : List NodeKey) → k < 8 → ring_from_level k ring ≡ verdict_and_then (ring_after_level w f leaf k ring) (ring_from_level (k + 1))
   unfolding ring_from_level
   climb_more k ring h = let e : 8 - k ≡ suc (8 - (k + 1)) = omega arith in ap (λ n. ring_after_levels w f leaf (range_with_len k n) ring) e
 
@@ -33,8 +33,8 @@ module _ (w : WrapMeaning) (f : Rekey) (leaf : ℕ) where
   module _ (k : ℕ) (ring next : List NodeKey) (r : Result (Unit {0}) ReadFault) (before_end : k < 8)
       (level : verdict_with r next ≡ ring_after_level w f leaf k ring) where
     -- with that result, the rest of the way goes on from the next ring, or is refused
-    climb_by : (q : Result (Unit {0}) ReadFault) → r ≡ q → ring_from_level k ring ≡ verdict_then (verdict_with q next) (ring_from_level (k + 1))
-    climb_by q is = climb_more k ring before_end ∙ ap (λ v. verdict_then v (ring_from_level (k + 1))) (sym level ∙ ap (λ v. verdict_with v next) is)
+    climb_by : (q : Result (Unit {0}) ReadFault) → r ≡ q → ring_from_level k ring ≡ verdict_and_then (verdict_with q next) (ring_from_level (k + 1))
+    climb_by q is = climb_more k ring before_end ∙ ap (λ v. verdict_and_then v (ring_from_level (k + 1))) (sym level ∙ ap (λ v. verdict_with v next) is)
 
   -- a level that is passed
   pub climb_on : (k : ℕ) (ring next : List NodeKey) (u : Unit {0}) (r : Result (Unit {0}) ReadFault) → k < 8 →

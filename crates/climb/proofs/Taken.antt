@@ -11,13 +11,13 @@ use Rattle.wrap.specs.Calls.{is_working_short}
 use Rattle.keys.specs.declared.NodeKey.{NodeKey}
 use Rattle.file_rules.specs.Layout.{wrap_count}
 use Rattle.file_rules.specs.Reading.{wrap_at, wrap_place, wraps_from, parsed_file}
-use Rattle.file_reader.specs.Refusals.{refusal_with_index}
+use Rattle.file_reader.specs.Refusals.{refusal_with_more}
 use Rattle.file_reader.specs.Views.{wrapped_key_of, content_under}
 use Rattle.file_reader.specs.declared.wraps.FileWrap.{FileWrap}
 use Rattle.wrap.specs.Meaning.{WrapMeaning}
 use Rattle.player_rules.specs.Climbs.{no_wrap, wrap_by_index, wrap_content, ring_with_key}
 use Rattle.climb.specs.declared.fault.ReadFault.{ReadFault}
-use Rattle.climb.specs.Refusals.{refusal_with_epoch, read_refusal, verdict_with}
+use Rattle.climb.specs.Refusals.{read_refusal, verdict_with}
 use Rattle.climb.specs.Entries.{open_wrap_verdict, place_after_open_wrap, entry_with_key}
 
 -- the wrap of an index stands at its place
@@ -32,7 +32,7 @@ verdict short fits o = cond short (refusal 9 []) (cond (fits && is_some o) (Ok t
 
 -- an opening with room enough gives the entry of the wrap's content, or the refusal
 opened : (epoch index : ℕ) (place : List ℕ) (t b : Bool) (o : Option (List ℕ)) (r : Result (Unit {0}) ReadFault) → t ≡ false →
-    verdict_of read_refusal r ≡ verdict_of (refusal_with_epoch epoch) (verdict_of (refusal_with_index index) (verdict t b o)) →
+    verdict_of read_refusal r ≡ verdict_of (refusal_with_more epoch) (verdict_of (refusal_with_more index) (verdict t b o)) →
     verdict_with {A = NodeKey} r (record { made = epoch; key = new_or_old {A = Unit {0}} (verdict t b o) (unwrap_or o place) place })
     ≡ entry_with_key epoch index (cond b o None)
 opened epoch index place true b o r t e = absurd (cc)

@@ -4,17 +4,16 @@ use Rattle.refusal.specs.Refusals.{Verdict, refusal, verdict_of}
 use Rattle.wrap.specs.Calls.{open_verdict, place_after_open}
 use Rattle.wrap.specs.Meaning.{WrapMeaning}
 use Rattle.keys.specs.declared.NodeKey.{NodeKey}
-use Rattle.file_reader.specs.Refusals.{refusal_with_index}
+use Rattle.file_reader.specs.Refusals.{refusal_with_more}
 use Rattle.file_reader.specs.Views.{content_under}
 use Rattle.file_reader.specs.declared.wraps.FileWrap.{FileWrap}
-use Rattle.climb.specs.Refusals.{refusal_with_epoch}
 
 -- what the opening of a wrap under a key answers, as the reading reports it: 9, or 18 with the
 -- wrap's index and the file's epoch
 abbrev pub open_wrap_verdict : WrapMeaning → List ℕ → FileWrap → List ℕ → Verdict (Unit {0})
 open_wrap_verdict w key x work =
-    verdict_of (refusal_with_epoch x.content.epoch)
-    (verdict_of (refusal_with_index x.index)
+    verdict_of (refusal_with_more x.content.epoch)
+    (verdict_of (refusal_with_more x.index)
     (open_verdict w.length x.sealed.now (content_under w key x) work))
 
 -- the place for the content after such an opening: the content, or what it held

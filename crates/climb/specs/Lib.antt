@@ -1,6 +1,7 @@
 pub mod Refusals
 pub mod Entries
 pub mod Finds
+pub use Rattle.file_reader.specs.RekeyFiles
 pub use Rattle.keys.specs.Names
 pub use Rattle.player_rules.specs.Climbs
 pub use Rattle.player_rules.specs.Players

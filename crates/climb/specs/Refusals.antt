@@ -1,9 +1,9 @@
 -- The refusals of reading a file: the number of each, and the values that are reported with it.
-use Rattle.std.specs.Prelude.{ℕ, if◌then◌else◌, [], ◌∷◌, ◌++◌, Ok, Err, Result, ◌==◌}
+use Rattle.std.specs.Prelude.{[], ◌∷◌, Ok, Err, Result}
 use Rattle.refusal.specs.Refusals.{Refusal, Verdict, refusal_with}
 use Rattle.layout.specs.Refusals.{layout_refusal}
 use Rattle.layout.specs.declared.fault.LayoutFault.{LayoutFault}
-use Rattle.file_reader.specs.Refusals.{file_refusal}
+use Rattle.file_reader.specs.Refusals.{file_refusal, refusal_with_more}
 use Rattle.climb.specs.declared.fault.ReadFault.{ReadFault}
 use Rattle.climb.specs.declared.fault.ReadFault.TheVariants as read
 use Rattle.climb.specs.declared.fault.DatedFault.{DatedFault}
@@ -16,20 +16,14 @@ layout_read_fault f = read.Layout f
 abbrev pub file_read_fault : DatedFault → ReadFault
 file_read_fault f = read.File f.epoch f.fault
 
--- a file's refusal as the reading reports it: a wrap that does not open (18) reports the file's
--- epoch too, after the wrap's index
-abbrev pub refusal_with_epoch : ℕ → Refusal → Refusal
-refusal_with_epoch epoch r =
-    refusal_with r.number (if r.number == 18 then r.values ++ (epoch ∷ []) else r.values)
-
--- the number and the values of each refusal
+-- the number and the values of each refusal: 18 reports the wrap's index and the file's epoch
 abbrev pub read_refusal : ReadFault → Refusal
 read_refusal read.ShortWorking = refusal_with 9 []
 read_refusal read.NotARing = refusal_with 14 []
 read_refusal (read.Layout fault) = layout_refusal fault
 read_refusal (read.TooLow wanted) = refusal_with 16 (wanted ∷ [])
 read_refusal (read.TooHigh wanted) = refusal_with 17 (wanted ∷ [])
-read_refusal (read.File epoch fault) = refusal_with_epoch epoch (file_refusal fault)
+read_refusal (read.File epoch fault) = refusal_with_more epoch (file_refusal fault)
 read_refusal (read.ShutOut node) = refusal_with 19 (node ∷ [])
 
 -- a result as a verdict, with what the call leaves if it was not refused

@@ -38,12 +38,12 @@ module _ (test : ℕ → Bool) (all : List ℕ) where
   gather_all items g = sym (g.parts ∙ append-nil items)
 
 -- there are 128 leaves
-leaves_count : length tree_leaves ≡ 128
+pub leaves_count : length tree_leaves ≡ 128
 unfolding tree_leaves
 leaves_count = refl
 
 -- there are 127 inner nodes
-inners_count : length inner_nodes ≡ 127
+pub inners_count : length inner_nodes ≡ 127
 unfolding inner_nodes
 inners_count = refl
 

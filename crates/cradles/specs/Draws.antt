@@ -9,28 +9,28 @@ use Rattle.keys.specs.declared.NodeKey.{NodeKey}
 use Rattle.keys.specs.Names.{unmade_key}
 
 -- 2 or 4: a scanner arrives
-abbrev pub has_arrival : Code → Bool
-has_arrival Empty = false
-has_arrival Stays = false
-has_arrival Arrives = true
-has_arrival Departs = false
-has_arrival Swaps = true
+abbrev pub is_arrival_code : Code → Bool
+is_arrival_code Empty = false
+is_arrival_code Stays = false
+is_arrival_code Arrives = true
+is_arrival_code Departs = false
+is_arrival_code Swaps = true
 
 -- 3: the change empties the cradle
-abbrev pub is_emptied : Code → Bool
-is_emptied Empty = false
-is_emptied Stays = false
-is_emptied Arrives = false
-is_emptied Departs = true
-is_emptied Swaps = false
+abbrev pub is_emptying_code : Code → Bool
+is_emptying_code Empty = false
+is_emptying_code Stays = false
+is_emptying_code Arrives = false
+is_emptying_code Departs = true
+is_emptying_code Swaps = false
 
 -- the leaves of the arrivals, by rising cradle
 unfoldable pub arrival_leaves : List Code → List ℕ
-arrival_leaves row = filter (λ u. has_arrival (code_at row u)) tree_leaves
+arrival_leaves row = filter (λ u. is_arrival_code (code_at row u)) tree_leaves
 
 -- the leaves that the change empties, by rising cradle
 unfoldable pub emptied_leaves : List Code → List ℕ
-emptied_leaves row = filter (λ u. is_emptied (code_at row u)) tree_leaves
+emptied_leaves row = filter (λ u. is_emptying_code (code_at row u)) tree_leaves
 
 -- the nodes that get a drawn key, in the order of the draws: the leaf of each arrival, by rising
 -- cradle, then each changed node, by falling number

@@ -4,7 +4,7 @@ ghost use Rattle.std.specs.Prelude.{◌≡◌, ◌*◌, ◌<◌, ◌≤◌, if�
 ghost use Rattle.arrayvec.specs.ArrayVec.{array_vec_len};
 ghost use Rattle.tree.specs.Rows.{code_at, changed_nodes};
 ghost use Rattle.keys.specs.Names.{unmade_key};
-ghost use Rattle.cradles.specs.Draws.{has_arrival, is_emptied, arrival_leaves, emptied_leaves, keys_without, keys_with_draws};
+ghost use Rattle.cradles.specs.Draws.{is_arrival_code, is_emptying_code, arrival_leaves, emptied_leaves, keys_without, keys_with_draws};
 
 use arrayvec::ArrayVec;
 use byte_strings::part_of;
@@ -18,14 +18,14 @@ fn code_at(row: &[Code; 128], leaf: u8) -> Code
     row[usize::from(leaf) - 128]
 }
 
-fn has_arrival(code: Code) -> bool
-    ensures { result ≡ has_arrival code }
+fn is_arrival_code(code: Code) -> bool
+    ensures { result ≡ is_arrival_code code }
 {
     matches!(code, Code::Arrives | Code::Swaps)
 }
 
-fn is_emptied(code: Code) -> bool
-    ensures { result ≡ is_emptied code }
+fn is_emptying_code(code: Code) -> bool
+    ensures { result ≡ is_emptying_code code }
 {
     matches!(code, Code::Departs)
 }
@@ -48,7 +48,7 @@ pub(crate) fn arrival_leaves(row: &[Code; 128]) -> ArrayVec<u8, 128>
     // By number, since what is listed is the leaf and not its code.
     for i in 0..128u8 {
         let leaf = 128 + i;
-        list_if(&mut leaves, leaf, has_arrival(code_at(row, leaf)));
+        list_if(&mut leaves, leaf, is_arrival_code(code_at(row, leaf)));
     }
     leaves
 }
@@ -81,7 +81,7 @@ pub(crate) fn clear_emptied(nodes: &mut [NodeKey; 256], row: &[Code; 128])
     // By number, since what is cleared stands at the leaf's number.
     for i in 0..128u8 {
         let leaf = 128 + i;
-        clear_if(nodes, leaf, is_emptied(code_at(row, leaf)));
+        clear_if(nodes, leaf, is_emptying_code(code_at(row, leaf)));
     }
 }
 

@@ -17,7 +17,7 @@ pub s_box_undoes : (b : ℕ) → b < 256 → s_box (inv_s_box b) ≡ b
 unfolding sum_of_bits product even_power inverse left_rotation affine_map inv_affine_map s_box inv_s_box
 s_box_undoes = agree (λ b. s_box (inv_s_box b)) (λ b. b) tt
 
--- a byte other than 0 times its inverse is 1
+-- a byte other than 0 times its inverse is 1, and 0 times its own is 0
 pub inverse_inverts : (b : ℕ) → b < 256 → product b (inverse b) ≡ cond (eqb b 0) 0 1
 unfolding sum_of_bits product even_power inverse
 inverse_inverts = agree (λ b. product b (inverse b)) (λ b. cond (eqb b 0) 0 1) tt

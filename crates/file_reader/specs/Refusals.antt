@@ -10,11 +10,11 @@ use Rattle.file_reader.specs.declared.fault.IndexedFault.{IndexedFault}
 abbrev pub file_fault_of : IndexedFault → FileFault
 file_fault_of f = Wrap f.index f.fault
 
--- a wrap's refusal as the file reports it: bytes that do not open (18) report the wrap's index too
-abbrev pub refusal_with_index : ℕ → Refusal → Refusal
-refusal_with_index index r =
-    refusal_with r.number (if r.number == 18 then r.values ++ (index ∷ []) else r.values)
+-- a refusal, where it is that of bytes that do not open (18) with one value more behind its own
+abbrev pub refusal_with_more : ℕ → Refusal → Refusal
+refusal_with_more value r =
+    refusal_with r.number (if r.number == 18 then r.values ++ (value ∷ []) else r.values)
 
--- the number and the values of each refusal
+-- the number and the values of each refusal: 18 reports the wrap's index
 abbrev pub file_refusal : FileFault → Refusal
-file_refusal (Wrap index fault) = refusal_with_index index (wrap_refusal fault)
+file_refusal (Wrap index fault) = refusal_with_more index (wrap_refusal fault)

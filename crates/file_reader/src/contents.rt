@@ -1,5 +1,5 @@
 //! What stands in a checked file.
-ghost use Rattle.std.specs.Prelude.{◌≡◌, ◌+◌, ◌<◌, ◌≤◌, true, length};
+ghost use Rattle.std.specs.Prelude.{◌≡◌, ◌+◌, ◌<◌, ◌≤◌, length, IsTrue};
 ghost use Rattle.byte_strings.specs.Numbers.{byte_at, be_number4};
 ghost use Rattle.file_rules.specs.Layout.{nodes_of, lists, wrap_count, is_rekey_file};
 ghost use Rattle.file_rules.specs.Reading.{wrap_at, wrap_place};
@@ -17,7 +17,7 @@ use wrap::Wrap;
 impl<'a> RekeyFile<'a> {
     /// The file in bytes that `check` accepted with this wrap.
     pub fn over<W: Wrap>(wrap: &W, bytes: &'a [u8]) -> RekeyFile<'a>
-        requires { is_rekey_file W.meaning.length bytes.now ≡ true }
+        requires { IsTrue (is_rekey_file W.meaning.length bytes.now) }
         ensures bytes { lent_bytes result ≡ bytes.now }
         ensures length { sealed_len_of result ≡ W.meaning.length }
     {

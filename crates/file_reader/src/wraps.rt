@@ -1,7 +1,7 @@
 //! A wrap that stands in a file.
 ghost use Rattle.std.specs.Prelude.{◌≡◌};
 ghost use Rattle.refusal.specs.Refusals.{verdict_of};
-ghost use Rattle.file_reader.specs.Refusals.{file_refusal, refusal_with_index};
+ghost use Rattle.file_reader.specs.Refusals.{file_refusal, refusal_with_more};
 ghost use Rattle.file_reader.specs.Views.{content_under};
 ghost use Rattle.wrap.specs.Calls.{work_after, open_verdict, place_after_open};
 
@@ -35,7 +35,7 @@ impl FileWrap<'_> {
         work: &mut [u8],
     ) -> Result<(), FileFault>
         ensures answer { verdict_of file_refusal result ≡
-            verdict_of (refusal_with_index self.entry.index)
+            verdict_of (refusal_with_more self.entry.index)
             (open_verdict W.meaning.length self.entry.sealed.now
             (content_under W.meaning key self.entry) work.old) }
         ensures written { place.new ≡

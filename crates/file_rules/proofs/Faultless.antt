@@ -48,8 +48,6 @@ module _ (L epoch : ℕ) (nodes bs : List ℕ) where
   wraps_end at zero e = grind arith
   wraps_end at (suc k) e = omega (arith, wraps_end (at + (6 + L)) k (wraps_pass at k e).1, suc-mul k (6 + L))
 
--- where they end
-
 -- the number of wraps ends within the file, and is at most 896
 pub count_ends : (bs : List ℕ) (at : ℕ) → fault_in bs (count_fields bs at) ≡ None → (at + 2 ≤ length bs) × (be_number2 bs at ≤ 896)
 count_ends bs at e = (grind arith, grind arith)

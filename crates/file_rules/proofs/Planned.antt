@@ -45,7 +45,7 @@ pub name_sized : (a b ea eb : ℕ) → a < 256 → b < 256 → IsSized 10 (wrap_
 name_sized a b ea eb ha hb =
     (refl, append_bytes (name_bytes (key_name a ea)) (name_bytes (key_name b eb)) (ha, big4_bytes ea) (hb, big4_bytes eb))
 
--- an occupied node is at or above a leaf
+-- an occupied node has a number below 256
 occupied_node : (row : List Code) (o : ℕ) → is_occupied row o ≡ true → o < 256
 unfolding is_occupied
 occupied_node row o e = let s = stands_is is_occupied_after row o e in omega (arith, halved_low s.under.0 s.at, s.under.1, s.is_leaf.1)

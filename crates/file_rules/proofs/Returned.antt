@@ -10,7 +10,8 @@ use Rattle.byte_strings.proofs.Parts.{append_bytes}
 use Rattle.file_rules.specs.Fields.{fault_in}
 use Rattle.tree.proofs.Members.{In, in_contains}
 use Rattle.file_rules.specs.Files.{WrappedKey, Rekey, file_bytes, head_bytes, nodes_bytes, wrap_bytes, wraps_bytes, file_size}
-use Rattle.file_rules.specs.Layout.{is_between, is_exactly, head_fields, node_fields, count_fields, wraps_fields, nodes_of, wrap_count, layout_fault}
+use Rattle.file_rules.specs.Layout.{is_exactly, head_fields, node_fields, count_fields, wraps_fields, nodes_of, wrap_count, layout_fault}
+use Rattle.std.specs.Int.{is_in_range}
 use Rattle.file_rules.specs.Reading.{wraps_from, parsed_file}
 use Rattle.file_rules.specs.Laws.{IsSoundWrap, IsSoundFile, RoundTrips}
 use Rattle.file_rules.proofs.Faults.{at_values}
@@ -81,8 +82,8 @@ module _ (L : ℕ) (f : Rekey) (s : IsSoundFile L f) where
         let first = ap (λ (l : List ℕ). is_exactly 0x4B (byte_at l 0)) e in
         let second = ap (λ (l : List ℕ). is_exactly 0x01 (byte_at l 1)) e in
         let kind = ap (λ (l : List ℕ). is_exactly f.kind (byte_at l 2)) e ∙ in_range f.kind f.kind f.kind (omega arith) (omega arith) in
-        let epoch = ap (is_between 1 1000000) epoch_there ∙ in_range 1 1000000 f.epoch s.epoch_range.0 s.epoch_range.1 in
-        let nodes = ap (is_between 1 127) count_there ∙ in_range 1 127 (length f.nodes) few.0 (omega arith) in
+        let epoch = ap (is_in_range 1 1000000) epoch_there ∙ in_range 1 1000000 f.epoch s.epoch_range.0 s.epoch_range.1 in
+        let nodes = ap (is_in_range 1 127) count_there ∙ in_range 1 127 (length f.nodes) few.0 (omega arith) in
         (omega arith, (first, (omega arith, (second, (omega arith, (kind, (omega arith, (epoch, (omega arith, (nodes, tt))))))))))
 
     -- the whole file has no fault

@@ -12,7 +12,8 @@ use Rattle.tree.proofs.Members.{In, contains_in, some_from}
 use Rattle.keys.specs.Names.{name_bytes}
 use Rattle.file_rules.specs.Fields.{FileField}
 use Rattle.file_rules.specs.Files.{WrappedKey, wrap_bytes}
-use Rattle.file_rules.specs.Layout.{is_between, lists, is_valid_content, wrap_fields, wraps_fields}
+use Rattle.file_rules.specs.Layout.{lists, is_valid_content, wrap_fields, wraps_fields}
+use Rattle.std.specs.Int.{is_in_range}
 use Rattle.file_rules.specs.Reading.{wrap_at, wraps_from}
 use Rattle.file_rules.specs.Laws.{IsSoundWrap}
 use Rattle.file_rules.proofs.Places.{at_first, at_place, further, number4_at, big4_back, big4_bytes}
@@ -38,7 +39,7 @@ content_passes L epoch nodes w nodes_lem s =
     and_from _ _ (in_listed nodes w.content listed) (and_from _ _ under own)
 
 -- a value from low to high passes
-pub in_range : (low high v : ℕ) → low ≤ v → v ≤ high → is_between low high v ≡ true
+pub in_range : (low high v : ℕ) → low ≤ v → v ≤ high → is_in_range low high v ≡ true
 in_range low high v a b = grind arith
 
 module _ (L epoch : ℕ) (nodes : List ℕ) (small : epoch ≤ 1000000) (nodes_lem : (n : ℕ) → In n nodes → 0 < n) (bs : List ℕ) where
@@ -58,8 +59,8 @@ module _ (L epoch : ℕ) (nodes : List ℕ) (small : epoch ≤ 1000000) (nodes_l
   wrap_passes : (at : ℕ) (w : WrappedKey) (more : List FileField) → IsSoundWrap L epoch nodes w → wrap_at L bs at ≡ w → at + (6 + L) ≤ length bs →
       AllPass (length bs) more → AllPass (length bs) (wrap_fields L epoch nodes bs at ++ more)
   wrap_passes at w more s e l rest =
-      let node = ap (λ v. is_between 1 255 v.opener.node) e ∙ in_range 1 255 w.opener.node s.opener_range.0 s.opener_range.1 in
-      let made = ap (λ v. is_between 1 epoch v.opener.epoch) e ∙ in_range 1 epoch w.opener.epoch s.opener_epoch.0 s.opener_epoch.1 in
+      let node = ap (λ v. is_in_range 1 255 v.opener.node) e ∙ in_range 1 255 w.opener.node s.opener_range.0 s.opener_range.1 in
+      let made = ap (λ v. is_in_range 1 epoch v.opener.epoch) e ∙ in_range 1 epoch w.opener.epoch s.opener_epoch.0 s.opener_epoch.1 in
       let content = ap (λ v. is_valid_content epoch nodes v.opener v.content) e ∙ content_passes L epoch nodes w nodes_lem s in
       (omega arith, (node, (omega arith, (made, (omega arith, (content, (omega arith, (refl, rest))))))))
 

@@ -1,5 +1,5 @@
 -- Which files there are; that each is read back from its bytes, and that nothing else is accepted.
-use Rattle.std.specs.Prelude.{◌≡◌, ℕ, ◌<◌, ◌≤◌, true, List, [], ◌∷◌, length, Contains, None}
+use Rattle.std.specs.Prelude.{◌≡◌, ℕ, ◌<◌, ◌≤◌, List, [], ◌∷◌, length, Contains, None}
 use Rattle.byte_strings.specs.Strings.{IsBytes, IsSized}
 use Rattle.tree.specs.declared.limits.TheConstants.{MOST_PAIRS}
 use Rattle.tree.specs.declared.types.Code.{Code}
@@ -14,6 +14,7 @@ use Rattle.file_rules.specs.Files.{WrappedKey, Rekey, file_bytes, file_size}
 use Rattle.file_rules.specs.Layout.{layout_fault}
 use Rattle.file_rules.specs.Reading.{parsed_file}
 use Rattle.file_rules.specs.Sealing.{rekey_of}
+use Rattle.std.specs.Prelude.{IsTrue}
 
 -- strictly falling from below b, and ending with 1
 abbrev pub Falls : ℕ → List ℕ → Type 0
@@ -62,10 +63,10 @@ pub record IsTimely (row : List Code) (epoch : ℕ) (former present : Keys) : Ty
   pub former_keys : (n : ℕ) → n < 256 → IsSized 32 (former n).key
   pub present_keys : (n : ℕ) → n < 256 → IsSized 32 (present n).key
   -- an occupied node has a key after the change
-  pub present_made : (n : ℕ) → n < 256 → is_occupied row n ≡ true →
+  pub present_made : (n : ℕ) → n < 256 → IsTrue (is_occupied row n) →
       (1 ≤ (present n).made) × ((present n).made ≤ epoch)
   -- a node with somebody beneath it who stays had a key before the change
-  pub former_made : (n : ℕ) → n < 256 → stands_within is_stay_code row n ≡ true →
+  pub former_made : (n : ℕ) → n < 256 → IsTrue (stands_within is_stay_code row n) →
       (1 ≤ (former n).made) × ((former n).made < epoch)
 
 -- a sealing gives L bytes
@@ -83,6 +84,6 @@ pub record FileLaws : Type 0 where
   -- the file of a lawful plan is sound, for any wrap, and so it is read back
   pub plan_is_sound : (kind L : ℕ) (seals : Sealing) → (1 ≤ kind) × (kind ≤ 255) →
       SealsTo L seals → (row : List Code) (plan : List Pair) (epoch : ℕ) (former present : Keys) →
-      is_changed row 1 ≡ true → IsLawfulPlan row plan → (1 ≤ epoch) × (epoch ≤ LAST_EPOCH) →
+      IsTrue (is_changed row 1) → IsLawfulPlan row plan → (1 ≤ epoch) × (epoch ≤ LAST_EPOCH) →
       IsTimely row epoch former present →
       IsSoundFile L (rekey_of kind seals epoch (changed_nodes row) plan former present)

@@ -9,14 +9,11 @@ use Rattle.keys.specs.Names.{key_name}
 use Rattle.tree.specs.declared.limits.TheConstants.{MOST_PAIRS}
 use Rattle.tree.specs.Tree.{is_within}
 use Rattle.file_rules.specs.Fields.{FileField, file_field, fault_in}
-
--- low and high are in range too
-abbrev pub is_between : ℕ → ℕ → ℕ → Bool
-is_between low high v = nat_le low v && nat_le v high
+use Rattle.std.specs.Int.{is_in_range}
 
 -- a value that must not vary
 abbrev pub is_exactly : ℕ → ℕ → Bool
-is_exactly wanted v = is_between wanted wanted v
+is_exactly wanted v = is_in_range wanted wanted v
 
 -- 4B and 01, the kind of the wrap in use, the epoch; and the number of changed nodes
 abbrev pub head_fields : ℕ → List ℕ → List FileField
@@ -24,14 +21,14 @@ head_fields kind bs =
     file_field 0 1 (is_exactly 0x4B (byte_at bs 0))
     ∷ file_field 1 1 (is_exactly 0x01 (byte_at bs 1))
     ∷ file_field 2 1 (is_exactly kind (byte_at bs 2))
-    ∷ file_field 3 4 (is_between 1 LAST_EPOCH (be_number4 bs 3))
-    ∷ file_field 7 1 (is_between 1 127 (byte_at bs 7))
+    ∷ file_field 3 4 (is_in_range 1 LAST_EPOCH (be_number4 bs 3))
+    ∷ file_field 7 1 (is_in_range 1 127 (byte_at bs 7))
     ∷ []
 
 -- a changed node: an inner node below the one before it, and if none is left after it, node 1
 abbrev pub is_valid_node : ℕ → ℕ → ℕ → Bool
 is_valid_node before left v =
-    is_between 1 127 v && (nat_lt v before && (nat_lt 0 left || v == 1))
+    is_in_range 1 127 v && (nat_lt v before && (nat_lt 0 left || v == 1))
 
 -- so many changed nodes, from a place on; each is below the one before it
 abbrev pub node_fields : List ℕ → ℕ → ℕ → ℕ → List FileField
@@ -63,8 +60,8 @@ opener_at bs at = key_name (byte_at bs at) (be_number4 bs (at + 1))
 -- a wrap, from a place on: the opener's node and epoch, the content, and L sealed bytes
 abbrev pub wrap_fields : ℕ → ℕ → List ℕ → List ℕ → ℕ → List FileField
 wrap_fields L epoch nodes bs at =
-    file_field at 1 (is_between 1 255 (byte_at bs at))
-    ∷ file_field (at + 1) 4 (is_between 1 epoch (be_number4 bs (at + 1)))
+    file_field at 1 (is_in_range 1 255 (byte_at bs at))
+    ∷ file_field (at + 1) 4 (is_in_range 1 epoch (be_number4 bs (at + 1)))
     ∷ file_field (at + 5) 1 (is_valid_content epoch nodes (opener_at bs at) (byte_at bs (at + 5)))
     ∷ file_field (at + 6) L true
     ∷ []

@@ -2,11 +2,19 @@
 #![tactic(auto)]
 
 ghost use Rattle.std.specs.Prelude.{◌≡◌};
+ghost use Rattle.keys.specs.Limits.{is_serial};
 ghost use Rattle.keys.specs.Names.{name_bytes, wrap_name};
 
 mod limits;
 
 pub use limits::{CARD_BYTES, LAST_EPOCH, LAST_SERIAL};
+
+/// Whether a number is the serial of a scanner: 1 to `LAST_SERIAL`.
+pub fn is_serial(number: u16) -> bool
+    ensures { result ≡ is_serial number }
+{
+    (1..=LAST_SERIAL).contains(&number)
+}
 
 /// The name of a key: its node, and the epoch in which it was made.
 #[derive(Clone, Copy, PartialEq, Eq, Debug)]

@@ -22,8 +22,8 @@ kind_of_number number =
     if number == 1 then Some Rfc3394 else (if number == 2 then Some Rfc5297 else None)
 
 -- that kind, or the error that there is none
-abbrev pub kind_from_number : ℕ → Result Kind UnknownKind
-kind_from_number number = ok_or (kind_of_number number) (record {})
+abbrev pub kind_result_of_number : ℕ → Result Kind UnknownKind
+kind_result_of_number number = ok_or (kind_of_number number) (record {})
 
 -- the kind that a word names: the bytes of the digits 1 and 2 are 49 and 50
 abbrev pub kind_of_word : List ℕ → Option Kind
@@ -33,9 +33,9 @@ kind_of_word (digit ∷ []) =
 kind_of_word (digit ∷ next ∷ more) = None
 
 -- that kind, or the error that there is none
-abbrev pub kind_from_str : List ℕ → Result Kind UnknownKind
-kind_from_str word = ok_or (kind_of_word word) (record {})
+abbrev pub kind_result_of_word : List ℕ → Result Kind UnknownKind
+kind_result_of_word word = ok_or (kind_of_word word) (record {})
 
 -- what the wrap means whose kind a number stands for
-abbrev pub wrap_of_kind : ℕ → Option WrapMeaning
-wrap_of_kind number = option_map kind_meaning (kind_of_number number)
+abbrev pub wrap_of_number : ℕ → Option WrapMeaning
+wrap_of_number number = option_map kind_meaning (kind_of_number number)

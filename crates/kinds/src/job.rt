@@ -1,5 +1,5 @@
 //! Running something with the wrap of a kind.
-ghost use Rattle.std.specs.Prelude.{◌≡◌, ⊤};
+ghost use Rattle.std.specs.Prelude.{⊤};
 ghost use Rattle.wrap.specs.Meaning.{WrapMeaning};
 ghost use Rattle.kinds.specs.Kinds.{kind_meaning};
 

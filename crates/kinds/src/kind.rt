@@ -1,6 +1,6 @@
 //! The kinds of key wraps.
 ghost use Rattle.std.specs.Prelude.{◌≡◌, Some, codes};
-ghost use Rattle.kinds.specs.Kinds.{kind_number, kind_from_str, kind_from_number};
+ghost use Rattle.kinds.specs.Kinds.{kind_number, kind_result_of_word, kind_result_of_number};
 
 use std::error::Error;
 use std::fmt;
@@ -35,7 +35,7 @@ impl From<Kind> for u8 {
 impl TryFrom<u8> for Kind {
     type Error = UnknownKind;
 
-    ghost try_from_gives = { λ number kind. kind ≡ kind_from_number number };
+    ghost try_from_gives = { λ number kind. kind ≡ kind_result_of_number number };
 
     fn try_from(number: u8) -> Result<Kind, UnknownKind> {
         match number {
@@ -50,7 +50,7 @@ impl TryFrom<u8> for Kind {
 impl FromStr for Kind {
     type Err = UnknownKind;
 
-    ghost from_str_gives = { λ word kind. kind ≡ kind_from_str word };
+    ghost from_str_gives = { λ word kind. kind ≡ kind_result_of_word word };
 
     fn from_str(word: &str) -> Result<Kind, UnknownKind> {
         match word.as_bytes() {

@@ -11,11 +11,11 @@ use Rattle.server_rules.specs.Calls.{Call, admit, remove, drop_notes, publish, c
 use Rattle.keys.specs.Limits.{is_serial}
 use Rattle.server_rules.specs.Notes.{admit_free_verdict, admit_verdict, remove_seat_verdict}
 use Rattle.server_rules.specs.Publishings.{publishing_file, publishing_size, publish_plan_verdict}
-use Rattle.server_rules.specs.Steps.{server_with_arrival, with_departure_at, server_of_next_epoch, is_refused_call}
+use Rattle.server_rules.specs.Steps.{server_with_arrival, server_with_departure_at, server_of_next_epoch, is_refused_call}
 use Rattle.server_rules.specs.Sound.{IsSoundServer}
 use Rattle.server_rules.specs.Laws.{StateLaws}
 use Rattle.law.specs.Book.{book_after}
-use Rattle.law.specs.Runs.{Site, verdict_editions, site_after, server_of, AllLawfullyGiven}
+use Rattle.law.specs.Runs.{Site, verdict_editions, site_after, server_of, AllGivenLawfully}
 use Rattle.law.proofs.Editions.{accepted_or_refused, site_of_next_epoch}
 use Rattle.law.proofs.CradleSearches.{found_at}
 
@@ -32,7 +32,7 @@ site_after_admit w x c v = record {
 -- the site after remove, by where the search finds the seat
 abbrev pub site_after_remove : Site → ℕ → Option ℕ → Verdict (Unit {0}) → Site
 site_after_remove w x o v = record {
-  server = new_or_old v (with_departure_at w.server o) w.server;
+  server = new_or_old v (server_with_departure_at w.server o) w.server;
   book = book_after w.book (remove x) (is_err v);
   files = w.files;
 }
@@ -123,6 +123,6 @@ module _ (P : Site → Type 0) (w : Site) (sound : IsSoundServer w.server) (keep
 -- every run leaves a sound server
 module _ (laws : StateLaws) where
   -- after any calls the server is sound
-  pub run_sound : (calls : List Call) → AllLawfullyGiven calls → IsSoundServer (server_of calls)
+  pub run_sound : (calls : List Call) → AllGivenLawfully calls → IsSoundServer (server_of calls)
   run_sound [] given = laws.new_sound
   run_sound (c ∷ earlier) given = laws.after_sound (server_of earlier) c given.0 (run_sound earlier given.1)

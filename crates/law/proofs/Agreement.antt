@@ -13,20 +13,20 @@ use Rattle.cradles.specs.Cradles.{cradle_code, occupant, noted_arrival, holder, 
 use Rattle.cradles.specs.Cradles.{IsCradle}
 use Rattle.cradles.proofs.Notes
 use Rattle.server_rules.specs.States.{leaf_of}
-use Rattle.cradles.specs.Draws.{has_arrival}
+use Rattle.cradles.specs.Draws.{is_arrival_code}
 use Rattle.server_rules.specs.Calls.{admit, remove, drop_notes}
 use Rattle.law.specs.Book.{Seat, Arrival, Stay, Book, is_departing, seat_from, stay_to, book_of_next_epoch, book_with_call}
 use Rattle.law.proofs.NextSteadyStays.{IsSeatAfter, stays_on, arrived, IsEndedAfter, departed, ended_before}
 
 -- who is awaited joins
-joins_code : (k : Cradle) (x : ℕ) → noted_arrival k ≡ Some x → has_arrival (cradle_code k) ≡ true
+joins_code : (k : Cradle) (x : ℕ) → noted_arrival k ≡ Some x → is_arrival_code (cradle_code k) ≡ true
 joins_code Empty x e = absurd (none-some x e)
 joins_code (Stays y) x e = absurd (none-some x e)
 joins_code (Arrives y) x e = refl
 joins_code (Departs y) x e = absurd (none-some x e)
 joins_code (Swaps y z) x e = refl
 
--- a seat and a noted arrival, and the cradles by their numbers
+-- a seat of the book is one of the server, and its departure is noted in both or in neither
 pub record Sits (cradles : ℕ → Cradle) (departures : List ℕ) (t : Seat) : Type 0 where
   pub cradled : IsCradle t.cradle
   pub sits : occupant (cradles t.cradle) ≡ Some t.serial
@@ -166,7 +166,7 @@ module _ (before : ℕ → Cradle) (b : Book) (old : Agrees before b) (row : Lis
     where
       new : (u : Seat) (a : Arrival) → In a b.arrivals → u ≡ seat_from (b.epoch + 1) a → IsSeatAfter b.epoch b.seats row u
       new u a j q = let s = old.come a j in
-          rw q (arrived s.cradled refl (ap has_arrival (codes a.cradle s.cradled) ∙ joins_code (before a.cradle) a.serial s.comes))
+          rw q (arrived s.cradled refl (ap is_arrival_code (codes a.cradle s.cradled) ∙ joins_code (before a.cradle) a.serial s.comes))
 
       kept : In t b.seats → is_departing b t ≡ false → IsSeatAfter b.epoch b.seats row t
       kept j e = let s = old.sit t j in stays_on j (codes t.cradle s.cradled ∙ (Notes.stays_on (before t.cradle) t.serial s.sits (sym s.same_departure ∙ e)).1)

@@ -25,7 +25,7 @@ use Rattle.law.proofs.AcceptedCalls.{AdmitCase, admit_case, admit_outcome}
 use Rattle.law.proofs.SoundSites.{IsSoundSite}
 use Rattle.law.proofs.Records.{IsSiteRecorded}
 
--- two refusals with different numbers are different, and no refusal is an acceptance
+-- two refusals with different numbers are different
 numbers_apart : {A : Type 0} (m n : ℕ) {ms ns : List ℕ} → (m ≡ n → ⊥) → refusal {A = A} m ms ≡ refusal n ns → ⊥
 numbers_apart {A} m n other e = other (ap number e)
   where

@@ -1,9 +1,9 @@
 -- The card of a seat: what the card call writes, and that enrolling with it is accepted.
 use Rattle.std.proofs.Common.{◌≡◌, ℕ, ◌+◌, ◌-◌, ◌≤◌, inl, inr, is_err, ap₂, true, not, cond, List, [], ◌∷◌, ◌++◌, length, drop, min, Some, None, Ok, Option}
-use Rattle.std.proofs.Common.{leb, ltb, eqb, replicate, refl, sym, ap, ◌∙◌, arith, ap₂}
+use Rattle.std.proofs.Common.{leb, ltb, eqb, replicate, refl, sym, ap, ◌∙◌, arith}
 use Rattle.std.proofs.lemmas.Bool.{and_parts, and_from, leb-true, le-leb, le-ltb, lt-ltb, cases_lt, true≢false}
 use Rattle.std.proofs.lemmas.List.{take_all}
-use Rattle.file_rules.specs.Layout.{is_between}
+use Rattle.std.specs.Int.{is_in_range}
 use Rattle.byte_strings.specs.Strings.{part}
 use Rattle.byte_strings.specs.Numbers.{be_bytes4, be_number2, be_number4}
 use Rattle.refusal.specs.Refusals.{Verdict, refusal, new_or_old}
@@ -76,21 +76,21 @@ module _ (t : Seat) (key : List ℕ) (serial : is_serial t.serial ≡ true) (k :
   faultless_card : card_fault card ≡ None
   faultless_card =
       ap (λ n. cond (not (eqb n 39)) (Some (min n 39)) others) long
-      ∙ ap (λ n. cond (not (is_between 1 9999 n)) (Some 0) rest) serial_there
+      ∙ ap (λ n. cond (not (is_in_range 1 9999 n)) (Some 0) rest) serial_there
       ∙ ap (λ b. cond (not b) (Some 0) rest) serial
       ∙ ap (λ b. cond (not b) (Some 2) last) (and_from (leb 128 (leaf_of t.cradle)) (leb (leaf_of t.cradle) 255)
       (le-leb 128 (leaf_of t.cradle) (omega arith)) (le-leb (leaf_of t.cradle) 255 (omega arith)))
-      ∙ ap (λ n. cond (not (is_between 1 1000000 n)) (Some 3) None) epoch_there
+      ∙ ap (λ n. cond (not (is_in_range 1 1000000 n)) (Some 3) None) epoch_there
       ∙ ap (λ b. cond (not b) (Some 3) None) (and_from (leb 1 t.first) (leb t.first 1000000) (le-leb 1 t.first low) (le-leb t.first 1000000 high))
     where
       last : Option ℕ
-      last = cond (not (is_between 1 1000000 (be_number4 card 3))) (Some 3) None
+      last = cond (not (is_in_range 1 1000000 (be_number4 card 3))) (Some 3) None
 
       rest : Option ℕ
-      rest = cond (not (is_between 128 255 (leaf_of t.cradle))) (Some 2) last
+      rest = cond (not (is_in_range 128 255 (leaf_of t.cradle))) (Some 2) last
 
       others : Option ℕ
-      others = cond (not (is_between 1 9999 (be_number2 card 0))) (Some 0) rest
+      others = cond (not (is_in_range 1 9999 (be_number2 card 0))) (Some 0) rest
 
   -- enrolling with the card is accepted, with the numbers of the seat
   pub card_enrols : enrol_verdict card ring ≡ Ok (player_numbers t.serial (leaf_of t.cradle) t.first)

@@ -4,7 +4,7 @@ use Rattle.tree.proofs.Members.{In, in_append, in_map, in_kept, contains_in}
 use Rattle.server_rules.specs.Calls.{Call, admit}
 use Rattle.law.proofs.InBook.{stay_in}
 use Rattle.law.specs.Book.{Book, Seat, Arrival, Stay, new_book, is_departing, stay_to, book_of_next_epoch, book_with_call}
-use Rattle.law.specs.Runs.{Site, site_of, book_of, AllLawfullyGiven}
+use Rattle.law.specs.Runs.{Site, site_of, book_of, AllGivenLawfully}
 use Rattle.law.specs.Law.{AllHave, AdmitChecks}
 use Rattle.server_rules.proofs.EveryCall.{state_laws}
 use Rattle.law.proofs.Agreement.{seat_next}
@@ -56,13 +56,13 @@ module _ (property : ℕ → ℕ → Bool) (checked : AdmitChecks property) wher
   }
 
   -- after any calls it holds of the book
-  have_run : (calls : List Call) → AllLawfullyGiven calls → Holds (book_of calls)
+  have_run : (calls : List Call) → AllGivenLawfully calls → Holds (book_of calls)
   have_run [] given = holds_at_first property
   have_run (c ∷ earlier) given = after_call (λ v. Holds v.book) (site_of earlier) (run_sound state_laws earlier given.1)
       (keeps (site_of earlier) (have_run earlier given.1)) (have_run earlier given.1) c given.0
 
   -- all stays and noted arrivals have the property, after any calls
-  pub all_have : (calls : List Call) → AllLawfullyGiven calls → AllHave (site_of calls).book property
+  pub all_have : (calls : List Call) → AllGivenLawfully calls → AllHave (site_of calls).book property
   all_have calls given = let h = have_run calls given in
       record {
         stays = λ s i. elim (stay_in (book_of calls) s i) [ inl j ↦ h.seats s.seat j.0 | inr j ↦ h.ended s j ];

@@ -19,7 +19,8 @@ use Rattle.server_rules.specs.declared.state.PublishReport.{PublishReport}
 use Rattle.server_rules.specs.States.{row}
 use Rattle.server_rules.specs.Calls.{Publishing, IsGivenLawfully, publish}
 use Rattle.cradles.specs.Draws.{drawn_size}
-use Rattle.server_rules.specs.Publishings.{publishing_plan, publishing_file, publishing_size, publish_plan_verdict, publishing_report, verdict_and}
+use Rattle.server_rules.specs.Publishings.{publishing_plan, publishing_file, publishing_size, publish_plan_verdict, publishing_report}
+use Rattle.std.specs.Result.{result_and}
 use Rattle.server_rules.specs.Publishings.{publish_verdict}
 use Rattle.server_rules.specs.Steps.{server_of_next_epoch}
 use Rattle.server_rules.specs.Sound.{IsSoundServer}
@@ -36,7 +37,7 @@ pub accepted_or_refused : (s : State) (p : Publishing) (P : Verdict PublishRepor
 accepted_or_refused s p P done other = go (publish_plan_verdict s p) (ltb (length p.file) (publishing_size s p)) refl
   where
     go : (v : Verdict (Unit {0})) (short : Bool) → publish_plan_verdict s p ≡ v →
-        P (verdict_and v (cond short (refusal 12 (publishing_size s p ∷ [])) (Ok (publishing_report s p))))
+        P (result_and v (cond short (refusal 12 (publishing_size s p ∷ [])) (Ok (publishing_report s p))))
     go (Ok a) true e = other _
     go (Ok a) false e = done e
     go (Err f) short e = other f

@@ -11,7 +11,7 @@ use Rattle.law.proofs.InBook.{IsStayIn, stay_in}
 use Rattle.law.specs.Book.{Stay, Covers, IsMember}
 use Rattle.server_rules.specs.Calls.{Call}
 use Rattle.server_rules.specs.Calls as calling
-use Rattle.law.specs.Runs.{Site, Edition, site_of, AllLawfullyGiven}
+use Rattle.law.specs.Runs.{Site, Edition, site_of, AllGivenLawfully}
 use Rattle.chains.specs.Chains.{IsReached}
 use Rattle.law.specs.Links.{IsLink}
 use Rattle.law.specs.Law.{IsPublishedEpoch, IsLeafKeyOf, SomeIsMember, HasStayUnder, LawHoldsAfter}
@@ -73,7 +73,7 @@ module _ (w : Site) (kept : IsSoundSite w) (serials : List ℕ) where
       (kept.steady.history m.stay (stay_in w.book m.stay m.is_stay) e m.covers))
 
 module _ (calls : List Call) (sound : IsSoundServer (site_of calls).server) (kept : IsSoundSite (site_of calls)) (plays : PlaysAfter calls)
-    (given_all : AllLawfullyGiven calls) where
+    (given_all : AllGivenLawfully calls) where
   -- the site
   abbrev w : Site
   w = site_of calls
@@ -162,7 +162,7 @@ module _ (calls : List Call) (sound : IsSoundServer (site_of calls).server) (kep
     readable = λ x i. kept.all_readable x (contains_in w.files x i);
     seats = λ t i. let j = contains_in w.book.seats t i in ((kept.agrees.sit t j).sits, (kept.steady.seats_are t j).since);
     seated_members = λ later earlier e c x k h. subst (λ (l : List Call). IsMember (site_of l).book x (site_of earlier).server.epoch) (sym e)
-        (members_seated state_laws later earlier (subst AllLawfullyGiven e given_all) c x k h);
+        (members_seated state_laws later earlier (subst AllGivenLawfully e given_all) c x k h);
     same_cradles = same_cradles w sound kept written;
     admit_answers = admit_answers w sound kept written;
     remove_answers = remove_answers w sound kept written;
@@ -174,6 +174,6 @@ module _ (calls : List Call) (sound : IsSoundServer (site_of calls).server) (kep
   }
 
 -- after any calls that are given lawfully the law holds
-pub every_run : (calls : List Call) → AllLawfullyGiven calls → LawHoldsAfter calls
+pub every_run : (calls : List Call) → AllGivenLawfully calls → LawHoldsAfter calls
 every_run calls lawful =
     group_keys calls (run_sound state_laws calls lawful) (run_kept state_laws calls lawful) (playing state_laws player_laws calls lawful) lawful

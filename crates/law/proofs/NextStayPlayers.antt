@@ -13,7 +13,7 @@ use Rattle.keys.specs.declared.NodeKey.{NodeKey}
 use Rattle.keys.specs.Names.{Keys, keys_in}
 use Rattle.server_rules.specs.declared.state.State.{State}
 use Rattle.server_rules.specs.States.{cradle, row}
-use Rattle.cradles.specs.Draws.{has_arrival, is_emptied}
+use Rattle.cradles.specs.Draws.{is_arrival_code, is_emptying_code}
 use Rattle.server_rules.specs.Calls.{publish, Publishing, IsGivenLawfully}
 use Rattle.server_rules.specs.Publishings.{publish_plan_verdict}
 use Rattle.server_rules.specs.Steps.{server_of_next_epoch}
@@ -31,7 +31,8 @@ use Rattle.law.specs.Book.{Book, Seat, Stay, book_of_next_epoch, stay_to}
 use Rattle.law.specs.Runs.{Edition, Site}
 use Rattle.law.specs.Players.{Course, files_from_to, card_of, read_of}
 use Rattle.law.specs.Readers.{IsPlannedPublishing, ReadsPublishing}
-use Rattle.law.proofs.SteadyStays.{leaf_at, cradled_leaf}
+use Rattle.law.proofs.SteadyStays.{leaf_at}
+use Rattle.server_rules.proofs.Rows.{cradled_leaf}
 use Rattle.law.proofs.NextSteadyStays.{stays_on, arrived, departed, ended_before}
 use Rattle.law.proofs.Agreement.{seats_next, ended_next}
 use Rattle.law.proofs.Editions.{new_edition, site_of_next_epoch, bytes_are}
@@ -88,7 +89,7 @@ module _ (laws : StateLaws) (players : PlayerLaws) (w : Site) (sound : IsSoundSe
   planned : IsPlannedPublishing s p
   planned = record { given = given; sound = sound; passes = ok }
 
-  -- the published bytes are those of the file
+  -- who reads the file reads the published bytes, which are its own
   reading_now : (leaf : ℕ) (work ring : List ℕ) → ReadsPublishing s p leaf ring → 512 ≤ length work →
       read_verdict leaf (s.epoch + 1) p.wrap x.bytes work ring ≡ Ok (path_entries present leaf)
   reading_now leaf work ring reads room =
@@ -138,7 +139,7 @@ module _ (laws : StateLaws) (players : PlayerLaws) (w : Site) (sound : IsSoundSe
 
     -- so it is where the server is
     module _ (key : List ℕ) (low : t.first ≤ s.epoch + 1) (does : CatchesUp key) where
-      -- after all files with the new one, it is where the server is
+      -- after all files, the new one among them, it is up to date
       plays_on : (all : Bool) (q : Player) (ring : List ℕ) → Course (card_of t key) (files_from_to t.first (s.epoch + 1) (x ∷ w.files)) all q ring →
           IsUpToDate all q ring
       plays_on all q ring c =
@@ -155,7 +156,7 @@ module _ (laws : StateLaws) (players : PlayerLaws) (w : Site) (sound : IsSoundSe
       leaf_kept : present (leaf_at t) ≡ former (leaf_at t)
       leaf_kept = change.others_kept (leaf_at t)
           (false_from_ne_true (is_changed (row s) (leaf_at t)) (λ y. omega (arith, (changed_inner (row s) (leaf_at t) y).1, stays_leaf.0)))
-          (λ l. (ap has_arrival code_is, ap is_emptied code_is))
+          (λ l. (ap is_arrival_code code_is, ap is_emptying_code code_is))
 
       -- handed the new file, it catches up
       stays_does : CatchesUp key
@@ -174,7 +175,7 @@ module _ (laws : StateLaws) (players : PlayerLaws) (w : Site) (sound : IsSoundSe
       }
 
     -- who arrives
-    module _ (cradled : IsCradle t.cradle) (first : t.first ≡ s.epoch + 1) (joined : has_arrival (code_at (row s) (leaf_at t)) ≡ true)
+    module _ (cradled : IsCradle t.cradle) (first : t.first ≡ s.epoch + 1) (joined : is_arrival_code (code_at (row s) (leaf_at t)) ≡ true)
         (i : In t (book_of_next_epoch b).seats) where
       -- the key of its leaf after the change
       abbrev new_key : List ℕ
@@ -279,7 +280,7 @@ module _ (laws : StateLaws) (players : PlayerLaws) (w : Site) (sound : IsSoundSe
 
     -- the player of a seat that just arrived does what it should
     arrives_next : (u : Stay) → u.last ≡ b.epoch + 1 → In u.seat (book_of_next_epoch b).seats → IsCradle u.seat.cradle → u.seat.first ≡ b.epoch + 1 →
-        has_arrival (code_at (row s) (leaf_at u.seat)) ≡ true → StayPlaysNext u
+        is_arrival_code (code_at (row s) (leaf_at u.seat)) ≡ true → StayPlaysNext u
     arrives_next u l i cradled first joined =
         let now : u.seat.first ≡ s.epoch + 1 = first ∙ ap (λ n. n + 1) (sym kept.same_epoch) in
         let on = arriving u.seat cradled now joined i in

@@ -15,20 +15,21 @@ use Rattle.tree.proofs.LawfulPlans.{plan_content, plan_opener, plan_served}
 use Rattle.keys.specs.declared.KeyName.{KeyName}
 use Rattle.keys.specs.Names.{Keys, key_name}
 use Rattle.file_rules.specs.Sealing.{opener_name}
-use Rattle.cradles.specs.Draws.{has_arrival, is_emptied}
+use Rattle.cradles.specs.Draws.{is_arrival_code, is_emptying_code}
 use Rattle.server_rules.specs.Laws.{IsRenewal}
 use Rattle.cradles.specs.Cradles.{IsCradle}
 use Rattle.server_rules.proofs.Renewals.{joins_is, joins_empties}
 use Rattle.law.specs.Book.{Seat, Stay, Covers}
 use Rattle.chains.proofs.Chains.{IsReachedByLinks, given, opened, followed_more}
 use Rattle.law.proofs.Renewals.{ChangesAbove, renewed_node, renewed_leaf, emptied_leaf, untouched, above, made_past}
-use Rattle.law.proofs.SteadyStays.{IsStayOf, leaf_at, IsLeafKeyName, IsSteadySeat, IsSteadyStay, IsRightLink, IsSteady, cradled_leaf}
+use Rattle.law.proofs.SteadyStays.{IsStayOf, leaf_at, IsLeafKeyName, IsSteadySeat, IsSteadyStay, IsRightLink, IsSteady}
+use Rattle.server_rules.proofs.Rows.{cradled_leaf}
 use Rattle.tree.proofs.Members.{In}
 
--- a seat and an ended stay after a publishing, by the code of its cradle in the row
+-- a seat after a publishing, by the code of its cradle in the row
 pub data IsSeatAfter (epoch : ℕ) (seats : List Seat) (row : List Code) (t : Seat) : Type 0 where
   stays_on : In t seats → code_at row (leaf_at t) ≡ Stays → IsSeatAfter epoch seats row t
-  arrived : IsCradle t.cradle → t.first ≡ epoch + 1 → has_arrival (code_at row (leaf_at t)) ≡ true → IsSeatAfter epoch seats row t
+  arrived : IsCradle t.cradle → t.first ≡ epoch + 1 → is_arrival_code (code_at row (leaf_at t)) ≡ true → IsSeatAfter epoch seats row t
 
 -- an ended stay after a publishing
 pub data IsEndedAfter (epoch : ℕ) (seats : List Seat) (ended : List Stay) (row : List Code) (s : Stay) : Type 0 where
@@ -65,8 +66,8 @@ departs_moves Departs d m = absurd (true≢false m)
 departs_moves Swaps d m = absurd (true≢false m)
 
 -- who arrives does not stay
-joins_stays : (c : Code) → has_arrival c ≡ true → c ≡ Stays → ⊥
-joins_stays c j e = true≢false (sym j ∙ ap has_arrival e)
+joins_stays : (c : Code) → is_arrival_code c ≡ true → c ≡ Stays → ⊥
+joins_stays c j e = true≢false (sym j ∙ ap is_arrival_code e)
 
 module _ (epoch : ℕ) (row : List Code) (plan : List Pair) (material : List ℕ) (former present : Keys)
     (seats seats′ : List Seat) (ended ended′ : List Stay) (link link′ : KeyName → KeyName → Type 0)
@@ -244,12 +245,12 @@ module _ (epoch : ℕ) (row : List Code) (plan : List Pair) (material : List ℕ
     | untouched q h ↦ not_moved s q h
   ]
     where
-      at_leaf : IsSeatAfter epoch seats row t → (present n).made ≡ epoch + 1 → n ≡ leaf_at t → has_arrival (code_at row (leaf_at t)) ≡ true → Reaches t n
+      at_leaf : IsSeatAfter epoch seats row t → (present n).made ≡ epoch + 1 → n ≡ leaf_at t → is_arrival_code (code_at row (leaf_at t)) ≡ true → Reaches t n
       at_leaf (stays_on i e) q same h = absurd (joins_stays (code_at row (leaf_at t)) h e)
       at_leaf (arrived c first j) q same h = given (ap₂ key_name (sym same) (first ∙ sym q))
 
-      not_emptied : IsSeatAfter epoch seats row t → is_emptied (code_at row (leaf_at t)) ≡ true → ⊥
-      not_emptied (stays_on i e) h = true≢false (sym h ∙ ap is_emptied e)
+      not_emptied : IsSeatAfter epoch seats row t → is_emptying_code (code_at row (leaf_at t)) ≡ true → ⊥
+      not_emptied (stays_on i e) h = true≢false (sym h ∙ ap is_emptying_code e)
       not_emptied (arrived c first j) h = joins_empties (code_at row (leaf_at t)) j h
 
       not_moved : IsSeatAfter epoch seats row t → (present n).made ≡ (former n).made → is_change_code (code_at row (leaf_at t)) ≡ false → Reaches t n
@@ -276,7 +277,7 @@ module _ (epoch : ℕ) (row : List Code) (plan : List Pair) (material : List ℕ
       since = elim (at (leaf_at t) (omega arith) t ok.cradled (within_self (leaf_at t))) [
         | renewed_node q h ↦ absurd (omega (arith, (changed_inner row (leaf_at t) h).1, (cradled_leaf t.cradle ok.cradled).0))
         | renewed_leaf q r h ↦ absurd (joins_stays (code_at row (leaf_at t)) h e)
-        | emptied_leaf q h ↦ absurd (true≢false (sym h ∙ ap is_emptied e))
+        | emptied_leaf q h ↦ absurd (true≢false (sym h ∙ ap is_emptying_code e))
         | untouched q h ↦ q ∙ ok.since
       ]
   seats_are t (arrived c first j) = record {

@@ -18,7 +18,7 @@ use Rattle.file_rules.specs.Laws as files
 use Rattle.file_rules.specs.Sealing.{opener_node, opener_key, pair_wrap}
 use Rattle.server_rules.specs.declared.state.State.{State}
 use Rattle.server_rules.specs.States.{row}
-use Rattle.cradles.specs.Draws.{has_arrival, is_emptied}
+use Rattle.cradles.specs.Draws.{is_arrival_code, is_emptying_code}
 use Rattle.server_rules.specs.Calls.{Publishing}
 use Rattle.wrap.specs.Meaning.{IsLawfulWrap}
 use Rattle.server_rules.specs.Publishings.{publishing_plan, publishing_file}
@@ -77,8 +77,8 @@ module _ (s : State) (p : Publishing) (a : IsAcceptedPublishing s p) where
   same_key n o l e = elim (cases_Bool (is_changed (row s) n)) [
     | inl y ↦ absurd (omega (arith, a.change.changed_new n y, made_by_now s n a.before o))
     | inr z ↦ sym (a.change.others_kept n z (λ f. (
-      false_from_ne_true (has_arrival (code_at (row s) n)) (λ j. omega (arith, a.change.arrival_new n f j, made_by_now s n a.before o)),
-      false_from_ne_true (is_emptied (code_at (row s) n)) (λ x. omega (arith, ap epoch_of_key (a.change.emptied_none n f x))),
+      false_from_ne_true (is_arrival_code (code_at (row s) n)) (λ j. omega (arith, a.change.arrival_new n f j, made_by_now s n a.before o)),
+      false_from_ne_true (is_emptying_code (code_at (row s) n)) (λ x. omega (arith, ap epoch_of_key (a.change.emptied_none n f x))),
     )))
   ]
 

@@ -15,7 +15,7 @@ use Rattle.file_rules.specs.Reading.{parsed_file}
 use Rattle.file_rules.proofs.Returned.{returned}
 use Rattle.server_rules.specs.declared.state.State.{State}
 use Rattle.server_rules.specs.States.{row}
-use Rattle.cradles.specs.Draws.{has_arrival, is_emptied}
+use Rattle.cradles.specs.Draws.{is_arrival_code, is_emptying_code}
 use Rattle.server_rules.specs.Calls.{Publishing}
 use Rattle.wrap.specs.Meaning.{WrapMeaning}
 use Rattle.server_rules.specs.Publishings.{publishing_file}
@@ -80,7 +80,7 @@ module _ (s : State) (p : Publishing) (planned : IsPlannedPublishing s p) (leaf 
       same_leaf : old_keys s leaf ≡ new_keys s p leaf
       same_leaf = sym (a.change.others_kept leaf
           (false_from_ne_true (is_changed (row s) leaf) (λ y. omega (arith, (changed_inner (row s) leaf y).1, st.is_leaf.0)))
-          (λ l. (ap has_arrival st.stays, ap is_emptied st.stays)))
+          (λ l. (ap is_arrival_code st.stays, ap is_emptying_code st.stays)))
 
   -- who arrives reads the file, and has the new keys up to the root
   pub arriving_reads : IsArrivingPlayer s p.material leaf ring → ReadsPublishing s p leaf ring
@@ -90,7 +90,7 @@ module _ (s : State) (p : Publishing) (planned : IsPlannedPublishing s p) (leaf 
         is_leaf = ar.is_leaf;
         seat = occupied_leaf (row s) leaf ar.is_leaf ∙ joined.0;
         known = λ k. inr (inr refl);
-        stayed = λ e k. absurd (false≢true (sym (ap has_arrival e) ∙ ar.arrives));
+        stayed = λ e k. absurd (false≢true (sym (ap is_arrival_code e) ∙ ar.arrives));
         kept = λ k l h z. absurd (both_ways (is_changed (row s) (ancestor k leaf)) z ((changed_iff (row s) (ancestor k leaf)).1
             (inner_there k leaf ar.is_leaf l h, (leaf, (ar.is_leaf, (beneath_there k leaf l, joined.1))))));
       }) (ar.holds ∙ ap (λ l. entry_bytes (new_keys s p leaf) ++ l) zeros)

@@ -16,7 +16,7 @@ use Rattle.server_rules.specs.Sound.{IsSoundServer}
 use Rattle.server_rules.specs.Laws.{StateLaws}
 use Rattle.law.proofs.InBook.{SitsIn, ArrivesIn, stay_in, in_stay}
 use Rattle.law.specs.Book.{Book, Seat, Arrival, IsMember, is_departing, seat_from, stay_to, book_of_next_epoch, book_with_call, book_after}
-use Rattle.law.specs.Runs.{Site, site_after, site_of, AllLawfullyGiven}
+use Rattle.law.specs.Runs.{Site, site_after, site_of, AllGivenLawfully}
 use Rattle.law.proofs.Agreement.{ChangesOneCradle}
 use Rattle.law.proofs.AcceptedCalls.{after_call, run_sound}
 use Rattle.law.proofs.SoundSites.{IsSoundSite, run_kept, one_other}
@@ -174,7 +174,7 @@ none_at f none c x e = none-some x (sym (ap f (empty 128 (c - 1)) ∙ none) ∙ 
 
 module _ (laws : StateLaws) where
   -- after any calls what the cradles say stands in the book
-  pub run_written : (calls : List Call) → AllLawfullyGiven calls → IsSiteRecorded (site_of calls)
+  pub run_written : (calls : List Call) → AllGivenLawfully calls → IsSiteRecorded (site_of calls)
   run_written [] given = record {
     seat = λ c x k e. absurd (none_at occupant refl c x e);
     arrival = λ c x k e. absurd (none_at noted_arrival refl c x e);
@@ -184,7 +184,7 @@ module _ (laws : StateLaws) where
       written_next (site_of earlier) (run_sound laws earlier given.1) (run_kept laws earlier given.1) (run_written earlier given.1) c given.0
 
   -- who is in a cradle is a member in the server's epoch
-  now_member : (calls : List Call) → AllLawfullyGiven calls → (c x : ℕ) → IsCradle c → occupant (cradle (site_of calls).server c) ≡ Some x →
+  now_member : (calls : List Call) → AllGivenLawfully calls → (c x : ℕ) → IsCradle c → occupant (cradle (site_of calls).server c) ≡ Some x →
       IsMember (site_of calls).book x (site_of calls).server.epoch
   now_member calls given c x k e =
       let s = (run_written calls given).seat c x k e in
@@ -197,7 +197,7 @@ module _ (laws : StateLaws) where
       }
 
   -- who was in a cradle stays a member in the epoch of that moment, whatever is called later
-  pub members_seated : (later earlier : List Call) → AllLawfullyGiven (later ++ earlier) → (c x : ℕ) → IsCradle c →
+  pub members_seated : (later earlier : List Call) → AllGivenLawfully (later ++ earlier) → (c x : ℕ) → IsCradle c →
       occupant (cradle (site_of earlier).server c) ≡ Some x →
       IsMember (site_of (later ++ earlier)).book x (site_of earlier).server.epoch
   members_seated [] earlier given c x k e = now_member earlier given c x k e

@@ -8,24 +8,24 @@ use Rattle.tree.specs.Rows.{code_at, is_change_code, stands_within, is_changed}
 use Rattle.tree.proofs.Halvings.{leaf_alone, inner_from}
 use Rattle.tree.proofs.Standing.{stands_from}
 use Rattle.keys.specs.Names.{Keys}
-use Rattle.cradles.specs.Draws.{has_arrival, is_emptied}
+use Rattle.cradles.specs.Draws.{is_arrival_code, is_emptying_code}
 use Rattle.server_rules.specs.Laws.{IsRenewal}
 
 -- a node at or above a leaf with this code, after a change that begins this epoch
 pub data ChangesAbove (epoch : ℕ) (row : List Code) (former present : Keys) (n u : ℕ) : Type 0 where
   renewed_node : (present n).made ≡ epoch → is_changed row n ≡ true → ChangesAbove epoch row former present n u
-  renewed_leaf : (present n).made ≡ epoch → n ≡ u → has_arrival (code_at row u) ≡ true → ChangesAbove epoch row former present n u
-  emptied_leaf : (present n).made ≡ 0 → is_emptied (code_at row u) ≡ true → ChangesAbove epoch row former present n u
+  renewed_leaf : (present n).made ≡ epoch → n ≡ u → is_arrival_code (code_at row u) ≡ true → ChangesAbove epoch row former present n u
+  emptied_leaf : (present n).made ≡ 0 → is_emptying_code (code_at row u) ≡ true → ChangesAbove epoch row former present n u
   untouched : (present n).made ≡ (former n).made → is_change_code (code_at row u) ≡ false → ChangesAbove epoch row former present n u
 
 module _ (epoch : ℕ) (row : List Code) (material : List ℕ) (former present : Keys) (r : IsRenewal epoch row material former present) where
   -- what the change makes of a leaf, by its code
   at_leaf : (u : ℕ) → IsLeaf u → is_changed row u ≡ false → (c : Code) → code_at row u ≡ c → ChangesAbove epoch row former present u u
-  at_leaf u l n Empty e = untouched (ap (λ k. k.made) (r.others_kept u n (λ h. (ap has_arrival e, ap is_emptied e)))) (ap is_change_code e)
-  at_leaf u l n Stays e = untouched (ap (λ k. k.made) (r.others_kept u n (λ h. (ap has_arrival e, ap is_emptied e)))) (ap is_change_code e)
-  at_leaf u l n Arrives e = renewed_leaf (r.arrival_new u l (ap has_arrival e)) refl (ap has_arrival e)
-  at_leaf u l n Departs e = emptied_leaf (ap (λ k. k.made) (r.emptied_none u l (ap is_emptied e))) (ap is_emptied e)
-  at_leaf u l n Swaps e = renewed_leaf (r.arrival_new u l (ap has_arrival e)) refl (ap has_arrival e)
+  at_leaf u l n Empty e = untouched (ap (λ k. k.made) (r.others_kept u n (λ h. (ap is_arrival_code e, ap is_emptying_code e)))) (ap is_change_code e)
+  at_leaf u l n Stays e = untouched (ap (λ k. k.made) (r.others_kept u n (λ h. (ap is_arrival_code e, ap is_emptying_code e)))) (ap is_change_code e)
+  at_leaf u l n Arrives e = renewed_leaf (r.arrival_new u l (ap is_arrival_code e)) refl (ap is_arrival_code e)
+  at_leaf u l n Departs e = emptied_leaf (ap (λ k. k.made) (r.emptied_none u l (ap is_emptying_code e))) (ap is_emptying_code e)
+  at_leaf u l n Swaps e = renewed_leaf (r.arrival_new u l (ap is_arrival_code e)) refl (ap is_arrival_code e)
 
   -- what moves beneath an inner node changes it
   unmoved : (n u : ℕ) → IsLeaf u → 0 < n → n < 128 → IsWithin u n → is_changed row n ≡ false → (b : Bool) → is_change_code (code_at row u) ≡ b → b ≡ false

@@ -14,7 +14,7 @@ use Rattle.player_rules.specs.Laws.{PlayerLaws}
 use Rattle.tree.proofs.Members.{contains_in}
 use Rattle.law.proofs.InBook.{IsStayIn}
 use Rattle.law.specs.Book.{Book, Seat, Stay, book_after}
-use Rattle.law.specs.Runs.{Site, site_after, site_of, AllLawfullyGiven}
+use Rattle.law.specs.Runs.{Site, site_after, site_of, AllGivenLawfully}
 use Rattle.law.specs.Players.{IsGivenCard, card_of}
 use Rattle.law.proofs.SteadyStays.{leaf_at}
 use Rattle.law.proofs.Editions.{accepted_or_refused}
@@ -106,7 +106,7 @@ told_rises b drop_notes false = omega arith
 told_rises b (publish p) false = omega arith
 told_rises b (card x buffer) false = omega arith
 
-module _ (laws : StateLaws) (players : PlayerLaws) (c : Call) (earlier : List Call) (given : IsGivenLawfully c) (all : AllLawfullyGiven earlier)
+module _ (laws : StateLaws) (players : PlayerLaws) (c : Call) (earlier : List Call) (given : IsGivenLawfully c) (all : AllGivenLawfully earlier)
     (old : PlaysAfter earlier) where
   -- the site
   abbrev w : Site
@@ -171,7 +171,7 @@ module _ (laws : StateLaws) (players : PlayerLaws) (c : Call) (earlier : List Ca
       (run_sound laws (publish p ∷ earlier) (g, all)) (run_kept laws (publish p ∷ earlier) (g, all))
 
 -- after one call more the players of all stays do what they should
-plays_then : (laws : StateLaws) (players : PlayerLaws) (c : Call) (earlier : List Call) → IsGivenLawfully c → AllLawfullyGiven earlier → PlaysAfter earlier →
+plays_then : (laws : StateLaws) (players : PlayerLaws) (c : Call) (earlier : List Call) → IsGivenLawfully c → AllGivenLawfully earlier → PlaysAfter earlier →
     PlaysAt (site_after (site_of earlier) c) (IsGivenCard (c ∷ earlier))
 plays_then laws players (admit x d) earlier given all old = admit_plays laws players (admit x d) earlier given all old x d
     (admit_verdict (site_of earlier).server x d)
@@ -183,7 +183,7 @@ plays_then laws players (card x buffer) earlier given all old = card_plays laws 
     (is_refused_call (site_of earlier).server (card x buffer))
 
 -- after any calls the players of all stays do what they should
-pub playing : StateLaws → PlayerLaws → (calls : List Call) → AllLawfullyGiven calls → PlaysAfter calls
+pub playing : StateLaws → PlayerLaws → (calls : List Call) → AllGivenLawfully calls → PlaysAfter calls
 playing laws players [] all = record {
   given_past = λ t bytes g. absurd (none_given t bytes g);
   plays = λ u i. elim i [ inl j ↦ absurd j.0 | inr j ↦ absurd j ];

@@ -14,7 +14,7 @@ use Rattle.server_rules.specs.Calls.{Call, drop_notes, publish, Publishing, IsGi
 use Rattle.keys.specs.Limits.{is_serial}
 use Rattle.server_rules.specs.Notes.{admit_verdict}
 use Rattle.server_rules.specs.Publishings.{publishing_plan, publish_plan_verdict}
-use Rattle.server_rules.specs.Steps.{with_cradle, server_with_arrival, with_departure_at, server_of_next_epoch}
+use Rattle.server_rules.specs.Steps.{server_with_cradle, server_with_arrival, server_with_departure_at, server_of_next_epoch}
 use Rattle.server_rules.specs.Sound.{IsSoundServer}
 use Rattle.server_rules.specs.Laws.{IsRenewal, StateLaws}
 use Rattle.server_rules.proofs.Verdicts.{plan_passed}
@@ -22,9 +22,10 @@ use Rattle.tree.specs.Tree.{countdown}
 use Rattle.tree.proofs.Members.{In, map_in, contains_in}
 use Rattle.law.proofs.AcceptedCalls.{site_after_admit, site_after_remove, after_call, run_sound}
 use Rattle.law.proofs.CheckedProperties.{HoldsInBook, holds_next, holds_admitted, holds_at_first}
-use Rattle.law.proofs.Countdowns.{in_falling, falling_next}
+use Rattle.law.proofs.Countdowns.{falling_next}
+use Rattle.tree.proofs.Members.{in_falling}
 use Rattle.law.specs.Book.{Arrival, Book, book_of_next_epoch}
-use Rattle.law.specs.Runs.{Edition, group_key, Site, site_after, site_of, AllLawfullyGiven}
+use Rattle.law.specs.Runs.{Edition, group_key, Site, site_after, site_of, AllGivenLawfully}
 use Rattle.law.specs.Links.{IsLink}
 use Rattle.law.specs.Law.{IsReadable}
 use Rattle.law.proofs.SteadyStays.{IsSteady}
@@ -53,7 +54,7 @@ pub epochs_past : (files : List Edition) (e : ℕ) → map (λ x. x.notice.epoch
 epochs_past files e order x i = in_falling e x.notice.epoch (subst (λ (l : List ℕ). In x.notice.epoch l) order (map_in (λ y. y.notice.epoch) files x i))
 
 -- only that cradle is another
-pub one_other : (s : State) (c : ℕ) (it : Cradle) → length s.cradles ≡ 128 → IsCradle c → ChangesOneCradle (cradle s) (cradle (with_cradle s c it)) c it
+pub one_other : (s : State) (c : ℕ) (it : Cradle) → length s.cradles ≡ 128 → IsCradle c → ChangesOneCradle (cradle s) (cradle (server_with_cradle s c it)) c it
 one_other s c it n k = record {
   here = get_or-set_same s.cradles (c - 1) it Empty (omega arith);
   elsewhere = λ d h other. get_or-set_other s.cradles (c - 1) (d - 1) it Empty (λ e. other (omega arith));
@@ -94,7 +95,7 @@ module _ (w : Site) (sound : IsSoundServer w.server) (old : IsSoundSite w) where
   remove_keeps x i k is =
       kept_with (set w.server.cradles (i + 1 - 1) (with_departure (cradle w.server (i + 1))))
       w.book.arrivals (x ∷ w.book.departures) (record { seats = old.serials.seats; arrivals = old.serials.arrivals; ended = old.serials.ended })
-      (remove_agrees (cradle w.server) (cradle (with_departure_at w.server (Some i))) w.book old.agrees x (i + 1) is
+      (remove_agrees (cradle w.server) (cradle (server_with_departure_at w.server (Some i))) w.book old.agrees x (i + 1) is
       (λ d h s. sound.seats_apart d (i + 1) x h k s is)
       (one_other w.server (i + 1) (with_departure (cradle w.server (i + 1))) sound.cradle_count k))
 
@@ -201,6 +202,6 @@ module _ (laws : StateLaws) where
   }
 
   -- after any calls the site is sound
-  pub run_kept : (calls : List Call) → AllLawfullyGiven calls → IsSoundSite (site_of calls)
+  pub run_kept : (calls : List Call) → AllGivenLawfully calls → IsSoundSite (site_of calls)
   run_kept [] given = start
   run_kept (c ∷ earlier) given = step (site_of earlier) c given.0 (run_sound laws earlier given.1) (run_kept earlier given.1)

@@ -1,6 +1,6 @@
 -- What holds of seats, ended stays, the epochs of keys and links after any calls, and that a publishing keeps it.
-use Rattle.std.proofs.Common.{◌≡◌, ℕ, ◌<◌, ◌≤◌, ◌⊎◌, List, arith}
-use Rattle.tree.specs.Tree.{IsWithin, IsLeaf}
+use Rattle.std.proofs.Common.{◌≡◌, ℕ, ◌<◌, ◌≤◌, ◌⊎◌, List}
+use Rattle.tree.specs.Tree.{IsWithin}
 use Rattle.keys.specs.declared.KeyName.{KeyName}
 use Rattle.keys.specs.Names.{key_name}
 use Rattle.server_rules.specs.States.{leaf_of}
@@ -53,7 +53,3 @@ pub record IsSteady (epoch : ℕ) (seats : List Seat) (ended : List Stay) (made 
   -- who is seated reaches the present key of each node above its leaf, and each stay the group keys of its epochs
   pub path : (t : Seat) → In t seats → (n : ℕ) → 0 < n → IsWithin (leaf_at t) n → IsReachedByLinks (IsLeafKeyName t) link (key_name n (made n))
   pub history : (s : Stay) → IsStayOf epoch seats ended s → (e : ℕ) → Covers s e → IsReachedByLinks (IsLeafKeyName s.seat) link (key_name 1 e)
-
--- the leaf of a cradle is one
-pub cradled_leaf : (c : ℕ) → IsCradle c → IsLeaf (leaf_of c)
-cradled_leaf c h = (omega arith, omega arith)

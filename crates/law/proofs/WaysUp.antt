@@ -28,7 +28,7 @@ use Rattle.server_rules.specs.Publishings.{publishing_plan, publishing_file}
 use Rattle.server_rules.proofs.Renewals.{epoch_of_key}
 use Rattle.player_rules.specs.Rings.{path_entries}
 use Rattle.player_rules.specs.Searches.{OpenableWrap, openable_wrap}
-use Rattle.player_rules.specs.Climbs.{no_wrap, wrap_by_index, ring_with_key, ring_with_found, ring_after_level, verdict_then, ring_after_levels}
+use Rattle.player_rules.specs.Climbs.{no_wrap, wrap_by_index, ring_with_key, ring_with_found, ring_after_level, verdict_and_then, ring_after_levels}
 use Rattle.player_rules.specs.Climbs.{ring_after_file}
 use Rattle.player_rules.specs.Laws.{Opens}
 use Rattle.player_rules.proofs.Searches.{found_opens, none_opens}
@@ -151,7 +151,7 @@ module _ (s : State) (p : Publishing) (a : IsAcceptedPublishing s p) (v : ℕ) (
   climb zero k l e ring r = ap (λ x. Ok x) (fill_by_all (λ j. new_keys s p (ancestor j v)) ring 8 unmade_key r.size (λ j h. r.below j (omega arith) h))
   climb (suc i) k l e ring r =
       let t = level k l (omega arith) ring r in
-      ap (λ x. verdict_then x (ring_after_levels p.wrap (publishing_file s p) v (range_with_len (k + 1) i))) t.1.0
+      ap (λ x. verdict_and_then x (ring_after_levels p.wrap (publishing_file s p) v (range_with_len (k + 1) i))) t.1.0
       ∙ climb i (k + 1) (omega arith) (omega arith) t.0 t.1.1
 
   -- with the new key of its leaf, the player gets the new keys up to the root

@@ -1,6 +1,6 @@
 -- What admit, remove and a card call answer, in the book's own words; and that the server's cradles
 -- say what the book says. Runs, whose sites these are, are listed the newest first.
-use Rattle.std.specs.Prelude.{◌≡◌, ℕ, ◌<◌, ◌≤◌, ◌↔◌, true, List, [], ◌∷◌, length, Some, Ok}
+use Rattle.std.specs.Prelude.{◌≡◌, ℕ, ◌<◌, ◌≤◌, ◌↔◌, List, [], ◌∷◌, length, Some, Ok, IsTrue}
 use Rattle.refusal.specs.Refusals.{refusal}
 use Rattle.cradles.specs.Cradles.{occupant, noted_arrival, has_departure, IsCradle}
 use Rattle.server_rules.specs.States.{cradle}
@@ -21,7 +21,7 @@ pub record SameCradles (w : Site) : Type 0 where
       (IsCradle c × (noted_arrival (cradle w.server c) ≡ Some x)) ↔ IsArriving w.book x c
   pub departures : (x c : ℕ) →
       ((IsCradle c × (occupant (cradle w.server c) ≡ Some x))
-      × (has_departure (cradle w.server c) ≡ true))
+      × IsTrue (has_departure (cradle w.server c)))
       ↔ (IsSeated w.book x c × IsDeparting w.book x)
   -- a departure is noted of nobody who sits nowhere
   pub departing : (x : ℕ) → IsDeparting w.book x → HasSeat w.book x

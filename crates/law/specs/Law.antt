@@ -1,7 +1,7 @@
 -- A group key belongs to its members, whatever was called: it is reached by nobody else, and each
 -- of their players holds it. Runs and files are listed the newest first.
 use Rattle.std.specs.Prelude.{◌≡◌, ℕ, ◌<◌, ◌≤◌, ◌↔◌, Bool, true, List, ◌∷◌, ◌++◌, length, map}
-use Rattle.std.specs.Prelude.{drop, Some, None, Ok, Contains}
+use Rattle.std.specs.Prelude.{drop, Some, None, Ok, Contains, IsTrue}
 use Rattle.byte_strings.specs.Strings.{IsBytes}
 use Rattle.tree.specs.Tree.{IsWithin, countdown}
 use Rattle.keys.specs.declared.KeyName.{KeyName}
@@ -17,7 +17,7 @@ use Rattle.server_rules.specs.Sound.{IsSoundServer}
 use Rattle.player_rules.specs.Players.{Player}
 use Rattle.law.specs.Book.{Book, Seat, Arrival, Stay, IsStay, IsMember, Covers}
 use Rattle.law.specs.Runs.{Edition, Site, group_key, site_of, server_of, book_of, files_of}
-use Rattle.law.specs.Runs.{AllLawfullyGiven}
+use Rattle.law.specs.Runs.{AllGivenLawfully}
 use Rattle.law.specs.Players.{IsGivenCard, Enrols, Course, files_from_to, HoldsGroupKey, card_of}
 use Rattle.chains.specs.Chains.{IsReached}
 use Rattle.law.specs.Links.{edition_file, IsLink}
@@ -87,13 +87,13 @@ CoursesExist calls =
 
 -- that property of a serial and a cradle is one of all stays and of all arrivals that are noted
 pub record AllHave (b : Book) (property : ℕ → ℕ → Bool) : Type 0 where
-  pub stays : (s : Stay) → IsStay b s → property s.seat.serial s.seat.cradle ≡ true
-  pub arrivals : (a : Arrival) → Contains b.arrivals a → property a.serial a.cradle ≡ true
+  pub stays : (s : Stay) → IsStay b s → IsTrue (property s.seat.serial s.seat.cradle)
+  pub arrivals : (a : Arrival) → Contains b.arrivals a → IsTrue (property a.serial a.cradle)
 
 -- admit checks that property: it accepts no serial and cradle without it, at any server
 abbrev pub AdmitChecks : (ℕ → ℕ → Bool) → Type 0
 AdmitChecks property =
-    (s : State) (x c : ℕ) → admit_verdict s x c ≡ Ok tt → property x c ≡ true
+    (s : State) (x c : ℕ) → admit_verdict s x c ≡ Ok tt → IsTrue (property x c)
 
 -- the card that a seat is given after these calls
 abbrev pub present_card : List Call → Seat → List ℕ
@@ -159,12 +159,12 @@ pub record LawHoldsAfter (calls : List Call) : Type 0 where
 -- for any calls on a new server, in any number and order, refused ones included, with any
 -- strategies and wraps that keep their laws
 abbrev pub EveryRun : Type 0
-EveryRun = (calls : List Call) → AllLawfullyGiven calls → LawHoldsAfter calls
+EveryRun = (calls : List Call) → AllGivenLawfully calls → LawHoldsAfter calls
 
 -- the law of one server: calls with lawful strategies and wraps that make it what it is, and all
 -- that holds after them
 pub record LawHoldsFor (s : State) : Type 0 where
   pub calls : List Call
-  pub given : AllLawfullyGiven calls
+  pub given : AllGivenLawfully calls
   pub is_server : server_of calls ≡ s
   pub holds : LawHoldsAfter calls

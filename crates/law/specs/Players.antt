@@ -1,12 +1,11 @@
 -- A player beside a run: the card that it is enrolled with, the files that it is handed, and what
 -- it then holds. Runs and files are listed the newest first.
-use Rattle.std.specs.Prelude.{◌≡◌, ℕ, ◌≤◌, Bool, true, not, ◌&&◌, ◌⊎◌, List, [], ◌∷◌, ◌++◌}
+use Rattle.std.specs.Prelude.{◌≡◌, ℕ, ◌≤◌, Bool, true, not, ◌&&◌, ◌⊎◌, List, [], ◌∷◌, ◌++◌, IsTrue}
 use Rattle.std.specs.Prelude.{filter, length, take, Ok, nat_le, Contains}
-use Rattle.byte_strings.specs.Numbers.{be_bytes2, be_bytes4}
 use Rattle.server_rules.specs.States.{leaf_of}
 use Rattle.server_rules.specs.Calls.{Call}
 use Rattle.server_rules.specs.Calls as calls
-use Rattle.server_rules.specs.Cards.{card_verdict, buffer_after_card}
+use Rattle.server_rules.specs.Cards.{card_verdict, buffer_after_card, card_with}
 use Rattle.player_rules.specs.Players.{PlayerNumbers, player_numbers, Player, waiting, seated}
 use Rattle.player_rules.specs.Players.{PlayerCall, read, show, enrol_verdict, ring_after_enrol}
 use Rattle.player_rules.specs.Players.{show_verdict, is_player_refused, player_after, ring_after}
@@ -49,7 +48,7 @@ own_ring_after (other bytes) left ring = ring
 
 -- a call that the player is not handed a published file by: it shows, or it is refused
 abbrev pub IsAside : PlayerCall → Player → List ℕ → Type 0
-IsAside a p ring = (a ≡ show) ⊎ (is_player_refused a p ring ≡ true)
+IsAside a p ring = (a ≡ show) ⊎ IsTrue (is_player_refused a p ring)
 
 -- the read of a published file, byte for byte, with the wrap that made it and these working bytes
 abbrev pub read_of : Edition → List ℕ → PlayerCall
@@ -79,7 +78,7 @@ pub data Course (card : List ℕ) : List Edition → Bool → Player → List �
 pub record HoldsGroupKey
     (files : List Edition) (t : Seat) (e : ℕ) (all : Bool) (p : Player) (ring : List ℕ) :
     Type 0 where
-  pub accepted_all : all ≡ true
+  pub accepted_all : IsTrue all
   pub is_seated : p ≡ seated (player_numbers t.serial (leaf_of t.cradle) e)
   pub file : Edition
   pub is_file : Contains files file
@@ -94,4 +93,4 @@ Enrols t card =
 
 -- the card of a seat: its serial, its leaf, its first epoch, and its leaf's key
 abbrev pub card_of : Seat → List ℕ → List ℕ
-card_of t key = be_bytes2 t.serial ++ (leaf_of t.cradle ∷ (be_bytes4 t.first ++ key))
+card_of t key = card_with t.serial (leaf_of t.cradle) (record { made = t.first; key = key })

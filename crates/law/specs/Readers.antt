@@ -1,6 +1,6 @@
 -- Who stays reads the file of a publishing, and so does who arrives: of any sound server, whichever
 -- run made it. Where the law lists runs and files, the newest stands first.
-use Rattle.std.specs.Prelude.{◌≡◌, ℕ, ◌+◌, ◌≤◌, true, List, ◌++◌, length, replicate, Ok}
+use Rattle.std.specs.Prelude.{◌≡◌, ℕ, ◌+◌, ◌≤◌, List, ◌++◌, length, replicate, Ok, IsTrue}
 use Rattle.tree.specs.declared.types.Code.TheVariants.{Stays}
 use Rattle.tree.specs.Tree.{IsLeaf}
 use Rattle.tree.specs.Rows.{code_at}
@@ -8,7 +8,7 @@ use Rattle.keys.specs.Names.{keys_in}
 use Rattle.file_rules.specs.Files.{file_bytes}
 use Rattle.server_rules.specs.declared.state.State.{State}
 use Rattle.server_rules.specs.States.{row}
-use Rattle.cradles.specs.Draws.{has_arrival}
+use Rattle.cradles.specs.Draws.{is_arrival_code}
 use Rattle.server_rules.specs.Calls.{publish, Publishing, IsGivenLawfully}
 use Rattle.server_rules.specs.Publishings.{publish_plan_verdict, publishing_file}
 use Rattle.server_rules.specs.Steps.{server_of_next_epoch}
@@ -27,7 +27,7 @@ pub record IsStayingPlayer (s : State) (leaf : ℕ) (ring : List ℕ) : Type 0 w
 pub record IsArrivingPlayer (s : State) (material : List ℕ) (leaf : ℕ) (ring : List ℕ) :
     Type 0 where
   pub is_leaf : IsLeaf leaf
-  pub arrives : has_arrival (code_at (row s) leaf) ≡ true
+  pub arrives : IsTrue (is_arrival_code (code_at (row s) leaf))
   -- zeros for the 7 nodes above the leaf, 36 bytes each
   pub holds : ring
       ≡ entry_bytes (keys_in (server_of_next_epoch s material).nodes leaf) ++ replicate 252 0

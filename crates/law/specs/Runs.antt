@@ -82,10 +82,10 @@ abbrev pub files_of : List Call → List Edition
 files_of calls = (site_of calls).files
 
 -- each publishing was given a lawful strategy, a lawful wrap and bytes
-abbrev pub AllLawfullyGiven : List Call → Type 0
-AllLawfullyGiven [] = Unit {0}
-AllLawfullyGiven (c ∷ earlier) = IsGivenLawfully c × AllLawfullyGiven earlier
+abbrev pub AllGivenLawfully : List Call → Type 0
+AllGivenLawfully [] = Unit {0}
+AllGivenLawfully (c ∷ earlier) = IsGivenLawfully c × AllGivenLawfully earlier
 
 -- the state is that of the server after some calls, all given what they ask for
 abbrev pub ComesFromRun : State → Type 0
-ComesFromRun s = (calls : List Call) × (AllLawfullyGiven calls × (server_of calls ≡ s))
+ComesFromRun s = (calls : List Call) × (AllGivenLawfully calls × (server_of calls ≡ s))

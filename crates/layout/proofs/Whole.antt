@@ -15,8 +15,6 @@ abbrev pub file_answer : ℕ → ℕ → List ℕ → Result (Unit {0}) LayoutFa
 file_answer kind L bs = value_or_fault (layout_fault kind L bs) tt
 
 module _ (kind L : ℕ) (bs : List ℕ) (epoch nodes : ℕ) where
-  -- what each part answers, at the values that the parts before it gave
-
   -- what the check of the head answers
   abbrev pub head_answer : Result (ℕ × ℕ) LayoutFault
   head_answer = value_or_fault {A = ℕ × ℕ} (fault_in bs (head_fields kind bs)) (be_number4 bs 3, byte_at bs 7)
@@ -46,8 +44,6 @@ module _ (kind L : ℕ) (bs : List ℕ) (epoch nodes : ℕ) where
   after_head wraps h w =
       let v = (passed _ _ _ h).1 in
       goes_on _ _ _ _ _ h (at_values kind L bs epoch nodes wraps (ap (λ p. p.0) v) (ap (λ p. p.1) v) w)
-
-  -- a part that is refused decides, after parts that are passed
 
   -- where the head is refused, its fault is the file's
   pub head_stops : (y : LayoutFault) → head_answer ≡ Err y → Err y ≡ file_answer kind L bs

@@ -1,6 +1,6 @@
 //! The fields of a file, read one after the other: each is there, and right.
 ghost use Rattle.std.specs.Prelude.{◌≡◌, if◌then◌else◌, Some, None};
-ghost use Rattle.file_rules.specs.Layout.{is_between};
+ghost use Rattle.std.specs.Int.{is_in_range};
 ghost use Rattle.layout.specs.Reads.{value_or_fault, answer_bytes, ReadsField, is_anything, byte_here, number4_here, part_here};
 
 use crate::cursor::Cursor;
@@ -43,7 +43,7 @@ impl<'a> Cursor<'a> {
 
     /// A byte from `low` to `high`.
     pub fn byte(&mut self, low: u8, high: u8) -> Result<u8, LayoutFault>
-        ensures { ReadsField self.old self.new 1 byte_here (is_between low high) result }
+        ensures { ReadsField self.old self.new 1 byte_here (is_in_range low high) result }
     {
         let place = self.at;
         let [value] = self.take::<1>()?;
@@ -52,7 +52,7 @@ impl<'a> Cursor<'a> {
 
     /// A number of four bytes, from `low` to `high`.
     pub fn number(&mut self, low: u32, high: u32) -> Result<u32, LayoutFault>
-        ensures { ReadsField self.old self.new 4 number4_here (is_between low high) result }
+        ensures { ReadsField self.old self.new 4 number4_here (is_in_range low high) result }
     {
         let place = self.at;
         let value = u32::from_be_bytes(self.take()?);

@@ -1,7 +1,7 @@
 //! The check of a rekey file: whether bytes are one, and the place of the first fault if not.
 #![tactic(auto)]
 
-ghost use Rattle.std.specs.Prelude.{◌≡◌, true, OnOk};
+ghost use Rattle.std.specs.Prelude.{◌≡◌, OnOk, IsTrue};
 ghost use Rattle.refusal.specs.Refusals.{verdict_of};
 ghost use Rattle.file_rules.specs.Layout.{is_rekey_file};
 ghost use Rattle.layout.specs.Refusals.{layout_refusal, check_verdict};
@@ -22,7 +22,7 @@ pub use head::lists;
 pub fn check<W: Wrap>(wrap: &W, bytes: &[u8]) -> Result<(), LayoutFault>
     ensures answer { verdict_of layout_refusal result ≡
         check_verdict W.meaning.kind W.meaning.length bytes.now }
-    ensures accepts { OnOk result (is_rekey_file W.meaning.length bytes.now ≡ true) }
+    ensures accepts { OnOk result (IsTrue (is_rekey_file W.meaning.length bytes.now)) }
 {
     sections::check_file(bytes, wrap.kind(), wrap.sealed_len())
 }

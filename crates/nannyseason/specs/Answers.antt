@@ -4,7 +4,8 @@ use Rattle.std.specs.Prelude.{ℕ, [], Ok, Err, slice_index_or}
 use Rattle.refusal.specs.Refusals.{Refusal, Verdict, refusal}
 use Rattle.wrap.specs.Refusals.{wrap_refusal}
 use Rattle.file_reader.specs.Refusals.{file_refusal}
-use Rattle.climb.specs.Refusals.{read_refusal, refusal_with_epoch}
+use Rattle.climb.specs.Refusals.{read_refusal}
+use Rattle.file_reader.specs.Refusals.{refusal_with_more}
 use Rattle.player.specs.Refusals.{enrol_refusal, ring_refusal}
 use Rattle.wrap.specs.declared.fault.WrapFault.{WrapFault}
 use Rattle.file_reader.specs.declared.fault.FileFault.{FileFault}
@@ -40,7 +41,7 @@ wrap_answer f = refusal_answer (wrap_refusal f)
 
 -- the two values that a read reports of an opening in the file of that epoch
 abbrev pub opening_values : ℕ → FileFault → ℕ × ℕ
-opening_values epoch f = value_pair (refusal_with_epoch epoch (file_refusal f))
+opening_values epoch f = value_pair (refusal_with_more epoch (file_refusal f))
 
 -- the answer that reports a fault of a read
 abbrev pub read_answer : ReadFault → Answer

@@ -40,26 +40,26 @@ player_call_verdict wipe (seated s) ring = wipe_verdict ring
 player_call_verdict wipe (wiped serial) ring = misuse
 
 -- what comes of a call on a player, where both are known; else `other`
-abbrev pub if_known :
+abbrev pub outcome_or :
     {A : Type 0} → Option PlayerCall → Option Player → (PlayerCall → Player → A) → A → A
-if_known None p outcome other = other
-if_known (Some c) None outcome other = other
-if_known (Some c) (Some p) outcome other = outcome c p
+outcome_or None p outcome other = other
+outcome_or (Some c) None outcome other = other
+outcome_or (Some c) (Some p) outcome other = outcome c p
 
 -- what a call on the player that a caller keeps reports
 abbrev pub stored_call_verdict : Option PlayerCall → Stored → List ℕ → Verdict (Unit {0})
 stored_call_verdict call k ring =
-    if_known call (player_in k) (λ c p. player_call_verdict c p ring) misuse
+    outcome_or call (player_in k) (λ c p. player_call_verdict c p ring) misuse
 
 -- what is kept after it: the player that the call made, where it was done
 abbrev pub stored_after_call : Option PlayerCall → Stored → List ℕ → Stored
 stored_after_call call k ring =
-    if_known call (player_in k)
+    outcome_or call (player_in k)
     (λ c p. new_or_old (player_call_verdict c p ring) (stored_of (player_after c p ring)) k) k
 
 -- the ring after it
 abbrev pub ring_after_call : Option PlayerCall → Stored → List ℕ → List ℕ
-ring_after_call call k ring = if_known call (player_in k) (λ c p. ring_after c p ring) ring
+ring_after_call call k ring = outcome_or call (player_in k) (λ c p. ring_after c p ring) ring
 
 -- what a showing gives to a place, which has to have 32 bytes
 abbrev pub show_call_verdict : Stored → List ℕ → List ℕ → Verdict (List ℕ)

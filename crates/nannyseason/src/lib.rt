@@ -6,7 +6,7 @@
 ghost use Rattle.std.specs.Prelude.{◌≡◌, Some};
 ghost use Rattle.std.specs.Result.{result_unwrap_or};
 ghost use Rattle.wrap.specs.Calls.{work_after};
-ghost use Rattle.kinds.specs.Kinds.{wrap_of_kind};
+ghost use Rattle.kinds.specs.Kinds.{wrap_of_number};
 ghost use Rattle.player_rules.specs.Players.{enrol_verdict, ring_after_enrol, wipe};
 ghost use Rattle.nannyseason.specs.Answers.{verdict_answer};
 ghost use Rattle.nannyseason.specs.Wraps.{seal_call_verdict, buffer_after_seal_call, open_call_verdict, place_after_open_call};
@@ -38,10 +38,10 @@ pub extern "C" fn nannyseason_seal(
     work: &mut [u8],
 ) -> Answer
     ensures answer { result
-        ≡ verdict_answer (seal_call_verdict (wrap_of_kind kind)
+        ≡ verdict_answer (seal_call_verdict (wrap_of_number kind)
         key.now name.now content.now sealed.old work.old) }
     ensures written { sealed.new
-        ≡ buffer_after_seal_call (wrap_of_kind kind)
+        ≡ buffer_after_seal_call (wrap_of_number kind)
         key.now name.now content.now sealed.old work.old }
     ensures cleared { work.new ≡ work_after work.old }
 {
@@ -72,10 +72,10 @@ pub extern "C" fn nannyseason_open(
     work: &mut [u8],
 ) -> Answer
     ensures answer { result
-        ≡ verdict_answer (open_call_verdict (wrap_of_kind kind)
+        ≡ verdict_answer (open_call_verdict (wrap_of_number kind)
         key.now name.now sealed.now content.old work.old) }
     ensures written { content.new
-        ≡ place_after_open_call (wrap_of_kind kind)
+        ≡ place_after_open_call (wrap_of_number kind)
         key.now name.now sealed.now content.old work.old }
     ensures cleared { work.new ≡ work_after work.old }
 {
@@ -125,13 +125,13 @@ pub extern "C" fn nannyseason_read(
 ) -> Answer
     ensures answer { result
         ≡ verdict_answer (stored_call_verdict
-        (read_call (wrap_of_kind kind) file.now work.old) stored.old ring.old) }
+        (read_call (wrap_of_number kind) file.now work.old) stored.old ring.old) }
     ensures player { stored.new
         ≡ stored_after_call
-        (read_call (wrap_of_kind kind) file.now work.old) stored.old ring.old }
+        (read_call (wrap_of_number kind) file.now work.old) stored.old ring.old }
     ensures ring { ring.new
         ≡ ring_after_call
-        (read_call (wrap_of_kind kind) file.now work.old) stored.old ring.old }
+        (read_call (wrap_of_number kind) file.now work.old) stored.old ring.old }
     ensures cleared { work.new ≡ work_after work.old }
 {
     let Ok(kind) = Kind::try_from(kind) else {

@@ -1,11 +1,11 @@
 //! A player in any state, and what is stored of it.
 ghost use Rattle.std.specs.Prelude.{◌≡◌, Some};
-ghost use Rattle.player.specs.Stored.{store, restore, is_in_range, is_serial_alone};
+ghost use Rattle.player.specs.Stored.{store, restore, has_player_ranges, is_serial_alone};
 ghost use Rattle.player.specs.Laws.{StoringLaws};
 ghost use Rattle.player.specs.declared.any.AnyPlayer.TheVariants as any;
 
 use crate::players::{Seated, Waiting, Wiped};
-use keys::{LAST_EPOCH, LAST_SERIAL};
+use keys::{LAST_EPOCH, is_serial};
 
 /// A player in any state. A match gives the player of that state back.
 #[derive(Drop)]
@@ -58,19 +58,17 @@ impl From<Wiped> for AnyPlayer {
 
 impl Stored {
     // Can a waiting or seated player have these numbers?
-    fn is_in_range(&self) -> bool
-        ensures { result ≡ is_in_range self.now }
+    fn has_player_ranges(&self) -> bool
+        ensures { result ≡ has_player_ranges self.now }
     {
-        (1..=LAST_SERIAL).contains(&self.serial)
-            && 128 <= self.leaf
-            && (1..=LAST_EPOCH).contains(&self.epoch)
+        is_serial(self.serial) && 128 <= self.leaf && (1..=LAST_EPOCH).contains(&self.epoch)
     }
 
     // Are they what is left of a wiped player?
     fn is_serial_alone(&self) -> bool
         ensures { result ≡ is_serial_alone self.now }
     {
-        (1..=LAST_SERIAL).contains(&self.serial) && self.leaf == 0 && self.epoch == 0
+        is_serial(self.serial) && self.leaf == 0 && self.epoch == 0
     }
 }
 
@@ -108,12 +106,12 @@ impl AnyPlayer {
         ensures { result ≡ restore stored }
     {
         match stored.state {
-            WAITING if stored.is_in_range() => Some(AnyPlayer::Waiting(Waiting {
+            WAITING if stored.has_player_ranges() => Some(AnyPlayer::Waiting(Waiting {
                 serial: stored.serial,
                 leaf: stored.leaf,
                 epoch: stored.epoch,
             })),
-            SEATED if stored.is_in_range() => Some(AnyPlayer::Seated(Seated {
+            SEATED if stored.has_player_ranges() => Some(AnyPlayer::Seated(Seated {
                 serial: stored.serial,
                 leaf: stored.leaf,
                 epoch: stored.epoch,

@@ -7,7 +7,7 @@ ghost use Rattle.player.specs.Refusals.{enrol_refusal};
 use crate::fault::EnrolFault;
 use crate::players::Waiting;
 use byte_strings::part_of;
-use keys::{CARD_BYTES, LAST_EPOCH, LAST_SERIAL};
+use keys::{CARD_BYTES, LAST_EPOCH, is_serial};
 use player_rules::RING_BYTES;
 
 // The player that a card is for.
@@ -23,7 +23,7 @@ fn read_card(card: &[u8]) -> Result<Waiting, EnrolFault>
     let serial = u16::from_be_bytes(part_of(card, 0));
     let leaf = card[2];
     let epoch = u32::from_be_bytes(part_of(card, 3));
-    if !(1..=LAST_SERIAL).contains(&serial) {
+    if !is_serial(serial) {
         return Err(EnrolFault::Card { place: 0 });
     }
     if leaf < 128 {

@@ -2,7 +2,7 @@
 ghost use Rattle.std.specs.Prelude.{ℕ};
 ghost use Rattle.player_rules.specs.Players.{PlayerNumbers, player_numbers};
 ghost use Rattle.keys.specs.Limits.{IsSerial};
-ghost use Rattle.player.specs.Ranges.{IsInRange};
+ghost use Rattle.player.specs.Ranges.{HasPlayerRanges};
 
 use std::marker::Model;
 
@@ -20,7 +20,7 @@ impl Model for Waiting {
 
     ghost view = { λ p. player_numbers p.serial p.leaf p.epoch };
 
-    ghost invariant = { λ p. IsInRange p.serial p.leaf p.epoch };
+    ghost invariant = { λ p. HasPlayerRanges p.serial p.leaf p.epoch };
 }
 
 /// A player whose ring has a group key.
@@ -37,7 +37,7 @@ impl Model for Seated {
 
     ghost view = { λ p. player_numbers p.serial p.leaf p.epoch };
 
-    ghost invariant = { λ p. IsInRange p.serial p.leaf p.epoch };
+    ghost invariant = { λ p. HasPlayerRanges p.serial p.leaf p.epoch };
 }
 
 /// What is left of a player whose ring was wiped.

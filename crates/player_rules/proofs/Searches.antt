@@ -13,19 +13,19 @@ use Rattle.byte_strings.proofs.Positions.{none_passes}
 use Rattle.player_rules.specs.Searches.{OpenableWrap, is_entry, entry_of, entry_for, wrap_or_later, openable_wrap}
 use Rattle.player_rules.specs.Laws.{Opens}
 
--- the first of the eight entries that passes a test
-abbrev IsFirstPassing : (ℕ → Bool) → Option ℕ → Type 0
-IsFirstPassing test (Some k) = (k < 8) × (test k ≡ true)
-IsFirstPassing test None = (k : ℕ) → k < 8 → test k ≡ false
+-- one of the eight entries, which passes a test; or none, where none does
+abbrev IsPassing : (ℕ → Bool) → Option ℕ → Type 0
+IsPassing test (Some k) = (k < 8) × (test k ≡ true)
+IsPassing test None = (k : ℕ) → k < 8 → test k ≡ false
 
 -- the search among the eight entries finds one that passes, unless none does
-first : (test : ℕ → Bool) → IsFirstPassing test (position test (range_with_len 0 8))
+first : (test : ℕ → Bool) → IsPassing test (position test (range_with_len 0 8))
 first test = go (position test (range_with_len 0 8)) refl
   where
     at : (k : ℕ) → k < 8 → test (get_or (range_with_len 0 8) k 0) ≡ test k
     at k l = ap test (get_or-range_with_len 0 8 k 0 l ∙ zero-add k)
 
-    go : (o : Option ℕ) → position test (range_with_len 0 8) ≡ o → IsFirstPassing test o
+    go : (o : Option ℕ) → position test (range_with_len 0 8) ≡ o → IsPassing test o
     go (Some k) e = let p = position-Some test (range_with_len 0 8) k 0 e in (p.0, sym (at k p.0) ∙ p.1)
     go None e = λ k l. sym (at k l) ∙ none_passes test (range_with_len 0 8) k 0 e l
 
@@ -47,7 +47,7 @@ module _ (ring : List NodeKey) (leaf node : ℕ) where
       test : ℕ → Bool
       test = is_entry ring leaf w.opener
 
-      by : (o : Option ℕ) → w.content ≡ node → IsFirstPassing test o → IsEntryFor w o
+      by : (o : Option ℕ) → w.content ≡ node → IsPassing test o → IsEntryFor w o
       by (Some k) c f = λ ws.
           let p = and_parts (eqb (ancestor k leaf) w.opener.node) (eqb (keys_in ring k).made w.opener.epoch) f.1 in
           record { in_file = omega arith; in_ring = f.0; content = c; opener_node = eqb-true _ _ p.0; opener_epoch = eqb-true _ _ p.1 }

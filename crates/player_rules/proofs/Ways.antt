@@ -18,7 +18,7 @@ use Rattle.file_rules.proofs.Wraps.{in_listed}
 use Rattle.file_rules.proofs.Accepted.{listed_in}
 use Rattle.wrap.specs.Meaning.{WrapMeaning}
 use Rattle.player_rules.specs.Searches.{OpenableWrap, openable_wrap}
-use Rattle.player_rules.specs.Climbs.{wrap_content, wrap_by_index, ring_with_key, ring_with_found, ring_after_level, verdict_then, ring_after_levels}
+use Rattle.player_rules.specs.Climbs.{wrap_content, wrap_by_index, ring_with_key, ring_with_found, ring_after_level, verdict_and_then, ring_after_levels}
 use Rattle.player_rules.specs.Climbs.{ring_after_file}
 use Rattle.player_rules.specs.Ways.{ring_so_far, IsRenewed, IsRingAtLevel, StopsWith, Stops}
 
@@ -149,7 +149,7 @@ module _ (w : WrapMeaning) (f : Rekey) (leaf : ℕ) (old : List NodeKey) (eight 
       later = ring_after_levels w f leaf (range_with_len (k + 1) i)
 
       on : (v : Verdict (List NodeKey)) → Goes (k + 1) v →
-          ((t : List NodeKey) → IsRingAtLevel w f leaf old (k + 1) t → Goes 8 (later t)) → Goes 8 (verdict_then v later)
+          ((t : List NodeKey) → IsRingAtLevel w f leaf old (k + 1) t → Goes 8 (later t)) → Goes 8 (verdict_and_then v later)
       on (Ok t) g more = more t g
       on (Err r) g more = g
 

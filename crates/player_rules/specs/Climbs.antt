@@ -57,16 +57,16 @@ ring_after_level w f leaf k ring =
     else Ok ring
 
 -- Rust's `and_then`: what follows a verdict that is no refusal
-abbrev pub verdict_then : {A B : Type 0} → Verdict A → (A → Verdict B) → Verdict B
-verdict_then (Ok a) next = next a
-verdict_then (Err f) next = Err f
+abbrev pub verdict_and_then : {A B : Type 0} → Verdict A → (A → Verdict B) → Verdict B
+verdict_and_then (Ok a) next = next a
+verdict_and_then (Err f) next = Err f
 
 -- the ring after these levels, one after the other, each with the ring as updated so far
 abbrev pub ring_after_levels : WrapMeaning → Rekey → ℕ → List ℕ → List NodeKey →
     Verdict (List NodeKey)
 ring_after_levels w f leaf [] ring = Ok ring
 ring_after_levels w f leaf (k ∷ ks) ring =
-    verdict_then (ring_after_level w f leaf k ring) (ring_after_levels w f leaf ks)
+    verdict_and_then (ring_after_level w f leaf k ring) (ring_after_levels w f leaf ks)
 
 -- the ring after the whole way: from the leaf's parent, one halving up, to the root, seven up
 unfoldable pub ring_after_file : WrapMeaning → Rekey → ℕ → List NodeKey → Verdict (List NodeKey)

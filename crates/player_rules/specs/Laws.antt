@@ -1,6 +1,6 @@
 -- What a player finds and reads, and what its refusals keep.
-use Rattle.std.specs.Prelude.{◌≡◌, ℕ, ◌<◌, ◌≤◌, true, ◌↔◌, List, length, Some, None, Ok, Err}
-use Rattle.std.specs.Prelude.{slice_index_or}
+use Rattle.std.specs.Prelude.{◌≡◌, ℕ, ◌<◌, ◌≤◌, ◌↔◌, List, length, Some, None, Ok, Err}
+use Rattle.std.specs.Prelude.{slice_index_or, IsTrue}
 use Rattle.refusal.specs.Refusals.{Refusal}
 use Rattle.tree.specs.Tree.{IsLeaf, ancestor}
 use Rattle.keys.specs.declared.NodeKey.{NodeKey}
@@ -48,7 +48,7 @@ pub record PlayerLaws : Type 0 where
       (r : Refusal) → (ring_after_file w f leaf old ≡ Err r) ↔ Stops w f leaf old r
   -- a refused call leaves the player and its ring as they were
   pub refused_keeps : (a : PlayerCall) (p : Player) (ring : List ℕ) →
-      is_player_refused a p ring ≡ true →
+      IsTrue (is_player_refused a p ring) →
       (player_after a p ring ≡ p) × (ring_after a p ring ≡ ring)
   -- a ring that holds the keys of all nodes from a leaf to the root shows the root's
   pub shows_root : (keys : Keys) (leaf : ℕ) → IsLeaf leaf → ((n : ℕ) → length (keys n).key ≡ 32) →

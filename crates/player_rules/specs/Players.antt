@@ -8,7 +8,8 @@ use Rattle.refusal.specs.Refusals.{Verdict, refusal, new_or_old}
 use Rattle.wrap.specs.Calls.{is_working_short}
 use Rattle.keys.specs.Limits.{is_serial}
 use Rattle.keys.specs.declared.NodeKey.{NodeKey}
-use Rattle.file_rules.specs.Layout.{is_between, layout_fault}
+use Rattle.file_rules.specs.Layout.{layout_fault}
+use Rattle.std.specs.Int.{is_in_range}
 use Rattle.file_rules.specs.Reading.{parsed_file}
 use Rattle.wrap.specs.Meaning.{WrapMeaning}
 use Rattle.player_rules.specs.Rings.{is_ring, entries, ring_bytes}
@@ -45,8 +46,8 @@ abbrev pub card_fault : List ℕ → Option ℕ
 card_fault card =
     if not (length card == CARD_BYTES) then Some (min (length card) CARD_BYTES)
     else (if not (is_serial (be_number2 card 0)) then Some 0
-    else (if not (is_between 128 255 (byte_at card 2)) then Some 2
-    else (if not (is_between 1 LAST_EPOCH (be_number4 card 3)) then Some 3 else None)))
+    else (if not (is_in_range 128 255 (byte_at card 2)) then Some 2
+    else (if not (is_in_range 1 LAST_EPOCH (be_number4 card 3)) then Some 3 else None)))
 
 -- the numbers that stand on a card: the serial in two bytes, the leaf in one, the epoch in four
 abbrev pub card_numbers : List ℕ → PlayerNumbers

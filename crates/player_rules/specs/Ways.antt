@@ -2,7 +2,7 @@
 -- from the leaf's parent to the root. For each listed node it takes the first wrap with that
 -- content whose opener, by node and epoch, is in the ring as updated so far.
 use Rattle.std.specs.Prelude.{◌≡◌, ℕ, ◌<◌, ◌≤◌, ◌⊎◌, List, [], ◌∷◌, ◌++◌, length, take, drop, Some}
-use Rattle.std.specs.Prelude.{None, slice_index_or, Contains}
+use Rattle.std.specs.Prelude.{None, Contains}
 use Rattle.refusal.specs.Refusals.{Refusal, refusal_with}
 use Rattle.tree.specs.Tree.{ancestor}
 use Rattle.keys.specs.declared.NodeKey.{NodeKey}
@@ -10,7 +10,7 @@ use Rattle.keys.specs.Names.{keys_in}
 use Rattle.file_rules.specs.Files.{Rekey}
 use Rattle.wrap.specs.Meaning.{WrapMeaning}
 use Rattle.player_rules.specs.Searches.{OpenableWrap, openable_wrap}
-use Rattle.player_rules.specs.Climbs.{wrap_content, no_wrap}
+use Rattle.player_rules.specs.Climbs.{wrap_content, wrap_by_index}
 
 -- the ring as updated so far: its first k entries are new, and the others are old
 abbrev pub ring_so_far : ℕ → List NodeKey → List NodeKey → List NodeKey
@@ -24,7 +24,7 @@ pub record IsRenewed (w : WrapMeaning) (f : Rekey) (leaf k : ℕ) (ring : List N
   pub is_first : openable_wrap ring leaf (ancestor k leaf) 0 f.wraps ≡ Some it
   -- what it opens to is the key, and it was made in the file's epoch
   pub content :
-      wrap_content w f.epoch (keys_in ring it.entry).key (slice_index_or f.wraps it.wrap no_wrap)
+      wrap_content w f.epoch (keys_in ring it.entry).key (wrap_by_index f it.wrap)
       ≡ Some entry.key
   pub made : entry.made ≡ f.epoch
 
@@ -55,7 +55,7 @@ pub record FirstDoesNotOpen (w : WrapMeaning) (f : Rekey) (leaf node : ℕ) (rin
   pub it : OpenableWrap
   pub is_first : openable_wrap ring leaf node 0 f.wraps ≡ Some it
   pub unopened :
-      wrap_content w f.epoch (keys_in ring it.entry).key (slice_index_or f.wraps it.wrap no_wrap)
+      wrap_content w f.epoch (keys_in ring it.entry).key (wrap_by_index f it.wrap)
       ≡ None
   pub is_refusal : r ≡ refusal_with 18 (it.wrap ∷ f.epoch ∷ [])
 

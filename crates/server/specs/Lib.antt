@@ -1,6 +1,5 @@
 pub mod Refusals
 pub mod Prepared
-pub use Rattle.file_writer.specs.Refusals as FileWriterRefusals
 pub use Rattle.law.specs.Law
 pub use Rattle.law.specs.Runs
 pub use Rattle.refusal.specs.Refusals as Verdicts

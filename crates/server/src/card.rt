@@ -1,8 +1,7 @@
 //! The card of a scanner.
-ghost use Rattle.std.specs.Prelude.{◌≡◌, ◌∷◌, ◌++◌, length};
-ghost use Rattle.byte_strings.specs.Numbers.{be_bytes2, be_bytes4};
+ghost use Rattle.std.specs.Prelude.{◌≡◌, length};
 ghost use Rattle.refusal.specs.Refusals.{verdict_of};
-ghost use Rattle.server_rules.specs.Cards.{card_verdict, buffer_after_card};
+ghost use Rattle.server_rules.specs.Cards.{card_verdict, buffer_after_card, card_with};
 ghost use Rattle.server.specs.Refusals.{card_refusal};
 
 use crate::fault::CardFault;
@@ -13,7 +12,7 @@ use server_rules::State;
 // Fills the place of a card: serial 2 bytes, leaf 1, the epoch of the leaf's key 4, its bytes 32.
 fn put_card(serial: u16, leaf: u8, node: NodeKey, place: &mut [u8])
     requires { length place.old ≡ CARD_BYTES }
-    ensures { place.new ≡ be_bytes2 serial ++ (leaf ∷ (be_bytes4 node.made ++ node.key)) }
+    ensures { place.new ≡ card_with serial leaf node }
 {
     let [high, low] = serial.to_be_bytes();
     let [a, b, c, d] = node.made.to_be_bytes();

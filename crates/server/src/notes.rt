@@ -12,7 +12,7 @@ ghost use Rattle.server.specs.Refusals.{admit_refusal, remove_refusal};
 
 use crate::fault::{AdmitFault, RemoveFault};
 use cradles::without_notes;
-use keys::LAST_SERIAL;
+use keys::is_serial;
 use server_rules::State;
 use tree::{CRADLES, Mark};
 
@@ -21,7 +21,7 @@ pub(crate) fn serial_of(number: u32) -> Option<u16>
     ensures { result ≡ (if is_serial number then Some number else None) }
 {
     let serial = u16::try_from(number).ok()?;
-    (1..=LAST_SERIAL).contains(&serial).then_some(serial)
+    is_serial(serial).then_some(serial)
 }
 
 /// The index of the cradle that a number is, counted from 0; none, if it is not one of 1 to `CRADLES`.

@@ -1,8 +1,8 @@
 -- Lists in which no element occurs twice.
-use Rattle.std.proofs.Common.{ℕ, zero, suc, ◌+◌, ◌<◌, ◌≤◌, Bool, true, false, cond, List, [], ◌∷◌, ◌++◌, filter, refl, inl, inr, arith}
+use Rattle.std.proofs.Common.{ℕ, zero, suc, ◌+◌, Bool, true, false, cond, List, [], ◌∷◌, ◌++◌, filter, refl, inl, inr, arith}
 use Rattle.std.specs.List.{range_with_len}
 use Rattle.tree.specs.Tree.{countdown}
-use Rattle.tree.proofs.Members.{In, in_append, in_kept, in_counting}
+use Rattle.tree.proofs.Members.{In, in_append, in_kept, in_counting, in_falling}
 
 -- no number is equal to one behind it
 abbrev pub HasNoRepeats : List ℕ → Type 0
@@ -30,12 +30,6 @@ distinct_kept test (x ∷ xs) d = go (test x) (distinct_kept test xs d.1)
 pub distinct_counting : (a n : ℕ) → HasNoRepeats (range_with_len a n)
 distinct_counting a zero = tt
 distinct_counting a (suc n) = ((λ h. omega (arith, (in_counting (a + 1) n a h).0)), distinct_counting (a + 1) n)
-
--- the numbers that count down from k are from 1 to k
-pub in_falling : (k i : ℕ) → In i (countdown k) → (0 < i) × (i ≤ k)
-in_falling zero i h = absurd h
-in_falling (suc k) i (inl e) = (omega arith, omega arith)
-in_falling (suc k) i (inr h) = let r = in_falling k i h in (r.0, omega arith)
 
 -- numbers that count down do not repeat
 pub distinct_falling : (k : ℕ) → HasNoRepeats (countdown k)

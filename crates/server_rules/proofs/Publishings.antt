@@ -19,11 +19,12 @@ use Rattle.cradles.proofs.Notes.{carried_seated, carried_holder}
 use Rattle.keys.specs.declared.limits.TheConstants.{LAST_EPOCH}
 use Rattle.server_rules.specs.declared.state.State.{State}
 use Rattle.server_rules.specs.States.{cradle, leaf_of, row, has_notes}
-use Rattle.cradles.specs.Draws.{has_arrival, is_emptied, drawn_size}
+use Rattle.cradles.specs.Draws.{is_arrival_code, is_emptying_code, drawn_size}
 use Rattle.server_rules.specs.Steps.{server_of_next_epoch}
 use Rattle.server_rules.specs.Sound.{IsSoundServer}
 use Rattle.server_rules.specs.Laws.{IsRenewal}
-use Rattle.server_rules.proofs.Rows.{leaf_is, code_at_leaf, root_above, noted_root}
+use Rattle.server_rules.proofs.Rows.{code_at_leaf, root_above, noted_root}
+use Rattle.server_rules.proofs.Rows.{cradled_leaf}
 use Rattle.server_rules.proofs.Renewals.{epoch_of_key, renewed_length, renewed_all, renewed_sized, renewal}
 
 -- no key was made after the server's epoch
@@ -34,7 +35,7 @@ made_by_now s n sound o = elim (within_cases n 1 (root_above n o)) [
 ]
 
 -- where nobody moves, nobody joins and no leaf is emptied
-still : (k : Code) → is_change_code k ≡ false → (has_arrival k ≡ false) × (is_emptied k ≡ false)
+still : (k : Code) → is_change_code k ≡ false → (is_arrival_code k ≡ false) × (is_emptying_code k ≡ false)
 still codes.Empty e = (refl, refl)
 still codes.Stays e = (refl, refl)
 still codes.Arrives e = absurd (false≢true (sym e))
@@ -102,7 +103,7 @@ module _ (s : State) (material : List ℕ) (sound : IsSoundServer s) where
   empty_leaf c h Empty e n = leaf_kept c h (ap (λ k. is_change_code (cradle_code k)) e) ∙ sound.empty_leaves c h (ap occupant e)
   empty_leaf c h (Stays x) e n = absurd (none-some x (sym n))
   empty_leaf c h (Arrives x) e n = absurd (none-some x (sym n))
-  empty_leaf c h (Departs x) e n = change.emptied_none (leaf_of c) (leaf_is c h) (ap is_emptied (code_at_leaf s c h ∙ ap cradle_code e))
+  empty_leaf c h (Departs x) e n = change.emptied_none (leaf_of c) (cradled_leaf c h) (ap is_emptying_code (code_at_leaf s c h ∙ ap cradle_code e))
   empty_leaf c h (Swaps x y) e n = absurd (none-some y (sym n))
 
   -- the leaf of a cradle that is occupied from then on has a key
@@ -110,9 +111,11 @@ module _ (s : State) (material : List ℕ) (sound : IsSoundServer s) where
   seated_leaf c x h Empty e n = absurd (none-some x n)
   seated_leaf c x h (Stays y) e n =
       omega (arith, sound.seated_leaves c y h (ap occupant e), ap epoch_of_key (leaf_kept c h (ap (λ k. is_change_code (cradle_code k)) e)))
-  seated_leaf c x h (Arrives y) e n = omega (arith, change.arrival_new (leaf_of c) (leaf_is c h) (ap has_arrival (code_at_leaf s c h ∙ ap cradle_code e)))
+  seated_leaf c x h (Arrives y) e n =
+      omega (arith, change.arrival_new (leaf_of c) (cradled_leaf c h) (ap is_arrival_code (code_at_leaf s c h ∙ ap cradle_code e)))
   seated_leaf c x h (Departs y) e n = absurd (none-some x n)
-  seated_leaf c x h (Swaps y z) e n = omega (arith, change.arrival_new (leaf_of c) (leaf_is c h) (ap has_arrival (code_at_leaf s c h ∙ ap cradle_code e)))
+  seated_leaf c x h (Swaps y z) e n =
+      omega (arith, change.arrival_new (leaf_of c) (cradled_leaf c h) (ap is_arrival_code (code_at_leaf s c h ∙ ap cradle_code e)))
 
   -- after a publishing of something noted the server is sound
   pub publish_sound : has_notes s ≡ true → s.epoch < LAST_EPOCH → IsBytes material → drawn_size (row s) ≤ length material → IsSoundServer next_state

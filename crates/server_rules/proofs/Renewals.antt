@@ -14,7 +14,8 @@ use Rattle.tree.specs.Tree.{IsLeaf, tree_leaves, inner_nodes, countdown}
 use Rattle.tree.specs.Rows.{code_at, is_changed, changed_nodes, is_occupied_after, is_change_code}
 use Rattle.tree.proofs.Members.{In, in_append, in_left, in_right, in_kept, kept_in, in_counting, counting_in}
 use Rattle.tree.proofs.Standing.{changed_inner, changed_in, in_changed}
-use Rattle.cradles.specs.Draws.{has_arrival, is_emptied, arrival_leaves, emptied_leaves, receivers, drawn_size, keys_without, drawn_key, keys_with_draws}
+use Rattle.cradles.specs.Draws.{is_arrival_code, is_emptying_code, arrival_leaves, emptied_leaves, receivers, drawn_size}
+use Rattle.cradles.specs.Draws.{keys_without, drawn_key, keys_with_draws}
 use Rattle.cradles.specs.Draws.{keys_after_change}
 use Rattle.server_rules.specs.Laws.{IsRenewal}
 use Rattle.server_rules.proofs.Distinct.{HasNoRepeats, distinct_append, distinct_kept, distinct_counting, distinct_falling}
@@ -120,7 +121,7 @@ dealt_sized epoch (u ∷ ns) m t n b l s =
 -- Who receives a key, and whose leaf is emptied.
 
 -- nobody arrives where the cradle is empty from then on
-pub joins_empties : (k : Code) → has_arrival k ≡ true → is_emptied k ≡ true → ⊥
+pub joins_empties : (k : Code) → is_arrival_code k ≡ true → is_emptying_code k ≡ true → ⊥
 joins_empties Empty j e = false≢true j
 joins_empties Stays j e = false≢true j
 joins_empties Arrives j e = false≢true e
@@ -128,7 +129,7 @@ joins_empties Departs j e = false≢true j
 joins_empties Swaps j e = false≢true e
 
 -- who arrives is there after the change, and moves
-pub joins_is : (k : Code) → has_arrival k ≡ true → (is_occupied_after k ≡ true) × (is_change_code k ≡ true)
+pub joins_is : (k : Code) → is_arrival_code k ≡ true → (is_occupied_after k ≡ true) × (is_change_code k ≡ true)
 joins_is Empty j = absurd (false≢true j)
 joins_is Stays j = absurd (false≢true j)
 joins_is Arrives j = (refl, refl)
@@ -137,35 +138,35 @@ joins_is Swaps j = (refl, refl)
 
 module _ (row : List Code) where
   -- the leaf of who arrives is in the list of arrivals
-  arrival_in : (u : ℕ) → IsLeaf u → has_arrival (code_at row u) ≡ true → In u (arrival_leaves row)
+  arrival_in : (u : ℕ) → IsLeaf u → is_arrival_code (code_at row u) ≡ true → In u (arrival_leaves row)
   unfolding arrival_leaves tree_leaves
-  arrival_in u l e = kept_in (λ v. has_arrival (code_at row v)) (range_with_len 128 128) u (counting_in 128 128 u l.0 l.1) e
+  arrival_in u l e = kept_in (λ v. is_arrival_code (code_at row v)) (range_with_len 128 128) u (counting_in 128 128 u l.0 l.1) e
 
   -- in that list are only leaves of who arrives
-  in_arrivals : (u : ℕ) → In u (arrival_leaves row) → IsLeaf u × (has_arrival (code_at row u) ≡ true)
+  in_arrivals : (u : ℕ) → In u (arrival_leaves row) → IsLeaf u × (is_arrival_code (code_at row u) ≡ true)
   unfolding arrival_leaves tree_leaves
-  in_arrivals u h = let r = in_kept (λ v. has_arrival (code_at row v)) (range_with_len 128 128) u h in (in_counting 128 128 u r.0, r.1)
+  in_arrivals u h = let r = in_kept (λ v. is_arrival_code (code_at row v)) (range_with_len 128 128) u h in (in_counting 128 128 u r.0, r.1)
 
   -- a leaf that is emptied is in the list of those
-  emptied_in : (u : ℕ) → IsLeaf u → is_emptied (code_at row u) ≡ true → In u (emptied_leaves row)
+  emptied_in : (u : ℕ) → IsLeaf u → is_emptying_code (code_at row u) ≡ true → In u (emptied_leaves row)
   unfolding emptied_leaves tree_leaves
-  emptied_in u l e = kept_in (λ v. is_emptied (code_at row v)) (range_with_len 128 128) u (counting_in 128 128 u l.0 l.1) e
+  emptied_in u l e = kept_in (λ v. is_emptying_code (code_at row v)) (range_with_len 128 128) u (counting_in 128 128 u l.0 l.1) e
 
   -- in that list are only leaves that are emptied
-  in_emptied : (u : ℕ) → In u (emptied_leaves row) → IsLeaf u × (is_emptied (code_at row u) ≡ true)
+  in_emptied : (u : ℕ) → In u (emptied_leaves row) → IsLeaf u × (is_emptying_code (code_at row u) ≡ true)
   unfolding emptied_leaves tree_leaves
-  in_emptied u h = let r = in_kept (λ v. is_emptied (code_at row v)) (range_with_len 128 128) u h in (in_counting 128 128 u r.0, r.1)
+  in_emptied u h = let r = in_kept (λ v. is_emptying_code (code_at row v)) (range_with_len 128 128) u h in (in_counting 128 128 u r.0, r.1)
 
   -- a node that is changed receives a key
   changed_receives : (n : ℕ) → is_changed row n ≡ true → In n (receivers row)
   changed_receives n e = in_right (arrival_leaves row) (changed_nodes row) n (changed_in row n e)
 
   -- the leaf of who arrives receives a key
-  arrival_receives : (u : ℕ) → IsLeaf u → has_arrival (code_at row u) ≡ true → In u (receivers row)
+  arrival_receives : (u : ℕ) → IsLeaf u → is_arrival_code (code_at row u) ≡ true → In u (receivers row)
   arrival_receives u l e = in_left (arrival_leaves row) (changed_nodes row) u (arrival_in u l e)
 
   -- only leaves of who arrives and changed nodes receive a key
-  receives : (n : ℕ) → In n (receivers row) → (IsLeaf n × (has_arrival (code_at row n) ≡ true)) ⊎ (is_changed row n ≡ true)
+  receives : (n : ℕ) → In n (receivers row) → (IsLeaf n × (is_arrival_code (code_at row n) ≡ true)) ⊎ (is_changed row n ≡ true)
   receives n h = elim (in_append (arrival_leaves row) (changed_nodes row) n h) [
     | inl i ↦ inl (in_arrivals n i)
     | inr j ↦ inr (in_changed row n j)
@@ -181,7 +182,7 @@ module _ (row : List Code) where
   -- no leaf is twice in the list of arrivals
   distinct_arrivals : HasNoRepeats (arrival_leaves row)
   unfolding arrival_leaves tree_leaves
-  distinct_arrivals = distinct_kept (λ u. has_arrival (code_at row u)) (range_with_len 128 128) (distinct_counting 128 128)
+  distinct_arrivals = distinct_kept (λ u. is_arrival_code (code_at row u)) (range_with_len 128 128) (distinct_counting 128 128)
 
   -- no node is twice in the list of those that are changed
   distinct_changed : HasNoRepeats (changed_nodes row)
@@ -235,8 +236,8 @@ module _ (row : List Code) where
         | inr c ↦ omega (arith, changed_inner row u c, l)
       ]) (emptied_in u l e);
       others_kept = λ n c f. renewed_others n
-          (λ h. elim (receives n h) [ inl a ↦ both_ways (has_arrival (code_at row n)) (f a.0).0 a.1 | inr e ↦ both_ways (is_changed row n) c e ])
-          (λ h. let r = in_emptied n h in both_ways (is_emptied (code_at row n)) (f r.0).1 r.1);
+          (λ h. elim (receives n h) [ inl a ↦ both_ways (is_arrival_code (code_at row n)) (f a.0).0 a.1 | inr e ↦ both_ways (is_changed row n) c e ])
+          (λ h. let r = in_emptied n h in both_ways (is_emptying_code (code_at row n)) (f r.0).1 r.1);
       drawn_in_order = dealt_keys epoch (receivers row) m keys_left distinct_receivers
           (λ n h. omega (arith, receiver_low n h, emptied_length (emptied_leaves row) t));
     }

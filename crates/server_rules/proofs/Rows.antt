@@ -15,8 +15,8 @@ use Rattle.server_rules.specs.States.{cradle, leaf_of, row, has_notes}
 use Rattle.server_rules.specs.Sound.{IsSoundServer}
 
 -- the leaf of a cradle is one
-pub leaf_is : (c : ℕ) → IsCradle c → IsLeaf (leaf_of c)
-leaf_is c h = (omega arith, omega arith)
+pub cradled_leaf : (c : ℕ) → IsCradle c → IsLeaf (leaf_of c)
+cradled_leaf c h = (omega arith, omega arith)
 
 -- the code of a cradle stands at its leaf
 pub code_at_leaf : (s : State) (c : ℕ) → IsCradle c → code_at (row s) (leaf_of c) ≡ cradle_code (cradle s c)
@@ -36,7 +36,7 @@ within_root (suc k) n o h = elim (cases_eq n 1) [
   | inr x ↦ within_trans n (n / 2) 1 (1, refl) (within_root k (n / 2) (omega arith) (omega arith))
 ]
 
--- the root is above every node
+-- every node is the root or beneath it
 pub root_above : (n : ℕ) → 0 < n → IsWithin n 1
 root_above n o = within_root n n o (omega arith)
 
@@ -58,5 +58,5 @@ noted_root s sound e =
     let c : IsCradle (w.0 + 1) = (omega arith, omega arith) in
     let q : w.0 + 1 - 1 ≡ w.0 = omega arith in
     and_from (is_inner 1) (stands_within is_change_code (row s) 1) (inner_from 1 (omega arith, omega arith))
-    (stands_from is_change_code (row s) 1 (leaf_of (w.0 + 1)) (omega arith) (leaf_is (w.0 + 1) c) (root_above (leaf_of (w.0 + 1)) (omega arith))
+    (stands_from is_change_code (row s) 1 (leaf_of (w.0 + 1)) (omega arith) (cradled_leaf (w.0 + 1) c) (root_above (leaf_of (w.0 + 1)) (omega arith))
     (ap is_change_code (code_at_leaf s (w.0 + 1) c) ∙ ap (λ i. is_change_code (cradle_code (get_or s.cradles i Empty))) q ∙ w.1.1))

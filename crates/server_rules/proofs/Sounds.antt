@@ -18,7 +18,8 @@ use Rattle.server_rules.specs.States.{new_state, cradle, is_that_serial, seat_in
 use Rattle.server_rules.specs.Calls.{Call, admit, remove, drop_notes, publish, card, IsGivenLawfully}
 use Rattle.server_rules.specs.Notes.{admit_verdict, remove_verdict}
 use Rattle.server_rules.specs.Publishings.{publish_verdict}
-use Rattle.server_rules.specs.Steps.{with_cradles, with_cradle, server_with_arrival, with_departure_at, server_with_departure, server_without_notes}
+use Rattle.server_rules.specs.Steps.{server_with_cradles, server_with_cradle, server_with_arrival, server_with_departure_at}
+use Rattle.server_rules.specs.Steps.{server_with_departure, server_without_notes}
 use Rattle.server_rules.specs.Steps.{server_of_next_epoch, server_after}
 use Rattle.server_rules.specs.Sound.{IsSoundServer}
 use Rattle.byte_strings.proofs.Positions.{none_passes}
@@ -65,8 +66,8 @@ HasHoldersApart s = (c d x : ℕ) → IsCradle c → IsCradle d → holder (crad
 
 -- other notes keep a server sound, if nobody moves and no serial holds two cradles
 noting_sound : (s : State) (cs : List Cradle) → IsSoundServer s → length cs ≡ CRADLES →
-    ((c : ℕ) → IsCradle c → occupant (cradle (with_cradles s cs) c) ≡ occupant (cradle s c)) →
-    HasHoldersApart (with_cradles s cs) → IsSoundServer (with_cradles s cs)
+    ((c : ℕ) → IsCradle c → occupant (cradle (server_with_cradles s cs) c) ≡ occupant (cradle s c)) →
+    HasHoldersApart (server_with_cradles s cs) → IsSoundServer (server_with_cradles s cs)
 noting_sound s cs sound size same apart = record {
   cradle_count = size;
   node_count = sound.node_count;
@@ -96,19 +97,19 @@ drop_sound s sound = noting_sound s (map without_notes s.cradles) sound (length-
 
 module _ (s : State) (sound : IsSoundServer s) (c : ℕ) (it : Cradle) where
   -- that cradle is the new one
-  at_same : (d : ℕ) → IsCradle d → d ≡ c → cradle (with_cradle s c it) d ≡ it
+  at_same : (d : ℕ) → IsCradle d → d ≡ c → cradle (server_with_cradle s c it) d ≡ it
   at_same d h e =
       ap (λ i. get_or (set s.cradles (i - 1) it) (d - 1) Empty) (sym e) ∙ get_or-set_same s.cradles (d - 1) it Empty (omega (arith, sound.cradle_count))
 
   -- every other cradle is as before
-  at_other : (d : ℕ) → IsCradle d → 1 ≤ c → (d ≡ c → ⊥) → cradle (with_cradle s c it) d ≡ cradle s d
+  at_other : (d : ℕ) → IsCradle d → 1 ≤ c → (d ≡ c → ⊥) → cradle (server_with_cradle s c it) d ≡ cradle s d
   at_other d h o x = get_or-set_other s.cradles (c - 1) (d - 1) it Empty (λ e. x (omega arith))
 
   -- the server stays sound, if the same scanner sits there and no serial holds two cradles
-  one_sound : 1 ≤ c → occupant it ≡ occupant (cradle s c) → HasHoldersApart (with_cradle s c it) → IsSoundServer (with_cradle s c it)
+  one_sound : 1 ≤ c → occupant it ≡ occupant (cradle s c) → HasHoldersApart (server_with_cradle s c it) → IsSoundServer (server_with_cradle s c it)
   one_sound o same apart = noting_sound s (set s.cradles (c - 1) it) sound (length-set s.cradles (c - 1) it ∙ sound.cradle_count) seat apart
     where
-      seat : (d : ℕ) → IsCradle d → occupant (cradle (with_cradle s c it) d) ≡ occupant (cradle s d)
+      seat : (d : ℕ) → IsCradle d → occupant (cradle (server_with_cradle s c it) d) ≡ occupant (cradle s d)
       seat d h = elim (cases_eq d c) [
         | inl e ↦ ap occupant (at_same d h e) ∙ same ∙ ap (λ i. occupant (cradle s i)) (sym e)
         | inr x ↦ ap occupant (at_other d h o x)
@@ -117,7 +118,7 @@ module _ (s : State) (sound : IsSoundServer s) (c : ℕ) (it : Cradle) where
 -- A departure that is noted.
 
 -- with a departure noted the server stays sound
-left_sound : (s : State) (i : Option ℕ) → IsSoundServer s → IsSoundServer (with_departure_at s i)
+left_sound : (s : State) (i : Option ℕ) → IsSoundServer s → IsSoundServer (server_with_departure_at s i)
 left_sound s None sound = sound
 left_sound s (Some i) sound = one_sound s sound (i + 1) it (omega arith) (departure_seated (cradle s (i + 1)))
     (λ d e x hd he p q. sound.holders_apart d e x hd he (before d x hd p) (before e x he q))
@@ -125,7 +126,7 @@ left_sound s (Some i) sound = one_sound s sound (i + 1) it (omega arith) (depart
     it : Cradle
     it = with_departure (cradle s (i + 1))
 
-    before : (d x : ℕ) → IsCradle d → holder (cradle (with_cradle s (i + 1) it) d) ≡ Some x → holder (cradle s d) ≡ Some x
+    before : (d x : ℕ) → IsCradle d → holder (cradle (server_with_cradle s (i + 1) it) d) ≡ Some x → holder (cradle s d) ≡ Some x
     before d x h p = elim (cases_eq d (i + 1)) [
       | inl e ↦ ap (λ j. holder (cradle s j)) e ∙ departure_holder (cradle s (i + 1)) x (sym (ap holder (at_same s sound (i + 1) it d h e)) ∙ p)
       | inr y ↦ sym (ap holder (at_other s sound (i + 1) it d h (omega arith) y)) ∙ p

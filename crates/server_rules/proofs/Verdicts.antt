@@ -14,7 +14,8 @@ use Rattle.cradles.specs.Draws.{drawn_size}
 use Rattle.server_rules.specs.Calls.{Publishing}
 use Rattle.keys.specs.Limits.{is_serial}
 use Rattle.server_rules.specs.Notes.{admit_free_verdict, admit_verdict}
-use Rattle.server_rules.specs.Publishings.{due_verdict, lent_verdict, publish_plan_verdict, publish_file_verdict, publish_verdict, verdict_and}
+use Rattle.server_rules.specs.Publishings.{due_verdict, lent_verdict, publish_plan_verdict, publish_file_verdict, publish_verdict}
+use Rattle.std.specs.Result.{result_and}
 use Rattle.server_rules.proofs.Ranges.{in_range}
 
 module _ {A : Type 0} where
@@ -28,7 +29,7 @@ module _ {A : Type 0} where
   passed false f next a e = (refl, e)
 
   -- both verdicts pass
-  pub both_passed : (v : Verdict (Unit {0})) (next : Verdict A) (a : A) → verdict_and v next ≡ Ok a → (v ≡ Ok tt) × (next ≡ Ok a)
+  pub both_passed : (v : Verdict (Unit {0})) (next : Verdict A) (a : A) → result_and v next ≡ Ok a → (v ≡ Ok tt) × (next ≡ Ok a)
   both_passed (Ok u) next a e = (refl, e)
   both_passed (Err f) next a e = absurd (refused_done f a e)
 

@@ -8,6 +8,7 @@ use Rattle.server_rules.specs.declared.state.State.{State}
 use Rattle.server_rules.specs.States.{leaf_of, seat_index}
 use Rattle.keys.specs.Limits.{is_serial}
 use Rattle.keys.specs.declared.limits.TheConstants.{CARD_BYTES}
+use Rattle.keys.specs.declared.NodeKey.{NodeKey}
 
 -- the scanner is in a cradle, or 5, and the buffer has room for a card, or 12 with the bytes needed
 abbrev pub card_seat_verdict : List ℕ → Option ℕ → Verdict (Unit {0})
@@ -20,12 +21,13 @@ abbrev pub card_verdict : State → ℕ → List ℕ → Verdict (Unit {0})
 card_verdict s x buffer =
     if not (is_serial x) then refusal 1 [] else card_seat_verdict buffer (seat_index x s)
 
--- the card of the scanner in that cradle: its serial, the leaf, the stay's first epoch, the leaf's
--- key
+-- a card: a serial, a leaf, the epoch in which the leaf's key was made, the key
+abbrev pub card_with : ℕ → ℕ → NodeKey → List ℕ
+card_with serial leaf key = be_bytes2 serial ++ (leaf ∷ (be_bytes4 key.made ++ key.key))
+
+-- the card of the scanner in that cradle, whose leaf's key was made in the stay's first epoch
 abbrev pub card_bytes : State → ℕ → ℕ → List ℕ
-card_bytes s x c =
-    let key = keys_in s.nodes (leaf_of c) in
-    be_bytes2 x ++ (leaf_of c ∷ (be_bytes4 key.made ++ key.key))
+card_bytes s x c = card_with x (leaf_of c) (keys_in s.nodes (leaf_of c))
 
 -- the buffer with the card at its front, where the scanner is in the cradle of that index
 abbrev pub buffer_with_card : State → ℕ → List ℕ → Option ℕ → List ℕ

@@ -1,5 +1,5 @@
 -- What calls keep, and what a publishing does to keys.
-use Rattle.std.specs.Prelude.{◌≡◌, ℕ, ◌+◌, ◌*◌, ◌<◌, true, false, List, length, Ok, slice_index_or}
+use Rattle.std.specs.Prelude.{◌≡◌, ℕ, ◌+◌, ◌*◌, ◌<◌, List, length, Ok, slice_index_or}
 use Rattle.byte_strings.specs.Strings.{part}
 use Rattle.tree.specs.declared.types.Code.{Code}
 use Rattle.tree.specs.Tree.{IsLeaf}
@@ -9,25 +9,27 @@ use Rattle.file_rules.specs.Laws as files
 use Rattle.cradles.specs.Cradles.{cradle_code, IsCradle}
 use Rattle.server_rules.specs.declared.state.State.{State}
 use Rattle.server_rules.specs.States.{new_state, cradle, leaf_of, row, has_notes}
-use Rattle.cradles.specs.Draws.{has_arrival, is_emptied, receivers}
+use Rattle.cradles.specs.Draws.{is_arrival_code, is_emptying_code, receivers}
 use Rattle.server_rules.specs.Calls.{Call, publish, Publishing, IsGivenLawfully}
 use Rattle.server_rules.specs.Publishings.{publish_plan_verdict, publishing_file}
 use Rattle.server_rules.specs.Steps.{server_of_next_epoch, server_after}
 use Rattle.server_rules.specs.Sound.{IsSoundServer}
+use Rattle.std.specs.Prelude.{IsTrue, IsFalse}
 
 -- what a change that begins that epoch does to the keys of the nodes
 pub record IsRenewal
     (epoch : ℕ) (row : List Code) (material : List ℕ) (former present : Keys) : Type 0 where
   -- a changed node has a key of the new epoch, and so has an arrival's leaf
-  pub changed_new : (n : ℕ) → is_changed row n ≡ true → (present n).made ≡ epoch
+  pub changed_new : (n : ℕ) → IsTrue (is_changed row n) → (present n).made ≡ epoch
   pub arrival_new : (u : ℕ) → IsLeaf u →
-      has_arrival (code_at row u) ≡ true → (present u).made ≡ epoch
+      IsTrue (is_arrival_code (code_at row u)) → (present u).made ≡ epoch
   -- an emptied leaf has none
   pub emptied_none : (u : ℕ) → IsLeaf u →
-      is_emptied (code_at row u) ≡ true → present u ≡ unmade_key
+      IsTrue (is_emptying_code (code_at row u)) → present u ≡ unmade_key
   -- every other node keeps what it had
-  pub others_kept : (n : ℕ) → is_changed row n ≡ false →
-      (IsLeaf n → (has_arrival (code_at row n) ≡ false) × (is_emptied (code_at row n) ≡ false)) →
+  pub others_kept : (n : ℕ) → IsFalse (is_changed row n) →
+      (IsLeaf n →
+      IsFalse (is_arrival_code (code_at row n)) × IsFalse (is_emptying_code (code_at row n))) →
       present n ≡ former n
   -- the new keys are drawn in order, 32 bytes each
   pub drawn_in_order : (i : ℕ) → i < length (receivers row) →
@@ -45,7 +47,7 @@ pub record StateLaws : Type 0 where
       code_at (row s) (leaf_of c) ≡ cradle_code (cradle s c)
   -- with something noted the root gets a new key
   pub noted_root : (s : State) → IsSoundServer s →
-      has_notes s ≡ true → is_changed (row s) 1 ≡ true
+      IsTrue (has_notes s) → IsTrue (is_changed (row s) 1)
   -- a publishing does to the keys what a change of its row does
   pub renewal : (s : State) (material : List ℕ) → IsSoundServer s →
       IsRenewal (s.epoch + 1) (row s) material

@@ -1,6 +1,6 @@
 -- What a publishing reports and leaves: its checks in their order, the plan and the file.
 use Rattle.std.specs.Prelude.{ℕ, ◌+◌, not, if◌then◌else◌, List, [], ◌∷◌, ◌++◌, length, drop, Ok}
-use Rattle.std.specs.Prelude.{Err, nat_le, nat_lt}
+use Rattle.std.specs.Prelude.{nat_le, nat_lt}
 use Rattle.refusal.specs.Refusals.{Verdict, refusal, new_or_old}
 use Rattle.wrap.specs.Calls.{is_working_short}
 use Rattle.tree.specs.declared.types.Pair.{Pair}
@@ -14,6 +14,7 @@ use Rattle.server_rules.specs.States.{row, has_notes}
 use Rattle.cradles.specs.Draws.{drawn_size, keys_after_change}
 use Rattle.server_rules.specs.Calls.{Publishing}
 use Rattle.keys.specs.declared.limits.TheConstants.{LAST_EPOCH}
+use Rattle.std.specs.Result.{result_and}
 
 -- the plan of the strategy for the codes of the cradles
 abbrev pub publishing_plan : State → Publishing → List Pair
@@ -30,11 +31,6 @@ publishing_file s p =
 abbrev pub publishing_size : State → Publishing → ℕ
 publishing_size s p =
     file_size p.wrap.length (length (changed_nodes (row s))) (length (publishing_plan s p))
-
--- the first verdict where it refuses, and else the next
-abbrev pub verdict_and : {A B : Type 0} → Verdict A → Verdict B → Verdict B
-verdict_and (Ok a) next = next
-verdict_and (Err f) next = Err f
 
 -- the checks of the server alone: something is noted, or 7, and the epoch is not the last, or 8
 abbrev pub due_verdict : State → Verdict (Unit {0})
@@ -54,7 +50,7 @@ lent_verdict s p =
 
 -- all checks before the plan is written: 7, 8, 9, 10, 11
 abbrev pub publish_plan_verdict : State → Publishing → Verdict (Unit {0})
-publish_plan_verdict s p = verdict_and (due_verdict s) (lent_verdict s p)
+publish_plan_verdict s p = result_and (due_verdict s) (lent_verdict s p)
 
 -- what a publishing reports where nothing refuses it
 abbrev pub publishing_report : State → Publishing → PublishReport
@@ -73,7 +69,7 @@ publish_file_verdict s p =
 
 -- the verdict on a publishing: 7, 8, 9, 10, 11, 12
 abbrev pub publish_verdict : State → Publishing → Verdict PublishReport
-publish_verdict s p = verdict_and (publish_plan_verdict s p) (publish_file_verdict s p)
+publish_verdict s p = result_and (publish_plan_verdict s p) (publish_file_verdict s p)
 
 -- the pair buffer afterwards: the plan at its front, also where the file has no room, or all as it
 -- was

@@ -13,29 +13,30 @@ use Rattle.server_rules.specs.Cards.{card_verdict}
 use Rattle.server_rules.specs.Publishings.{publish_verdict}
 
 -- the server with other cradles
-abbrev pub with_cradles : State → List Cradle → State
-with_cradles s cradles = record s { cradles = cradles }
+abbrev pub server_with_cradles : State → List Cradle → State
+server_with_cradles s cradles = record s { cradles = cradles }
 
 -- the server with another cradle of that number
-abbrev pub with_cradle : State → ℕ → Cradle → State
-with_cradle s c it = with_cradles s (slice_set s.cradles (c - 1) it)
+abbrev pub server_with_cradle : State → ℕ → Cradle → State
+server_with_cradle s c it = server_with_cradles s (slice_set s.cradles (c - 1) it)
 
 -- the server with the arrival of a scanner at a cradle noted
 abbrev pub server_with_arrival : State → ℕ → ℕ → State
-server_with_arrival s x c = with_cradle s c (with_arrival (cradle s c) x)
+server_with_arrival s x c = server_with_cradle s c (with_arrival (cradle s c) x)
 
 -- the server with the departure from the cradle of that index noted
-abbrev pub with_departure_at : State → Option ℕ → State
-with_departure_at s None = s
-with_departure_at s (Some i) = with_cradle s (i + 1) (with_departure (cradle s (i + 1)))
+abbrev pub server_with_departure_at : State → Option ℕ → State
+server_with_departure_at s None = s
+server_with_departure_at s (Some i) =
+    server_with_cradle s (i + 1) (with_departure (cradle s (i + 1)))
 
 -- the server with the departure of the scanner noted, where it is in a cradle
 abbrev pub server_with_departure : State → ℕ → State
-server_with_departure s x = with_departure_at s (seat_index x s)
+server_with_departure s x = server_with_departure_at s (seat_index x s)
 
 -- the server with nothing noted
 abbrev pub server_without_notes : State → State
-server_without_notes s = with_cradles s (map without_notes s.cradles)
+server_without_notes s = server_with_cradles s (map without_notes s.cradles)
 
 -- the server after a change: the next epoch, the notes carried out, and new keys from the material
 abbrev pub server_of_next_epoch : State → List ℕ → State

@@ -2,7 +2,7 @@
 use Rattle.std.specs.Prelude.{◌≡◌, ℕ, List, [], ◌∷◌}
 use Rattle.server_rules.specs.declared.state.State.{State}
 use Rattle.server_rules.specs.Calls.{Call}
-use Rattle.law.specs.Runs.{Edition, site_of, AllLawfullyGiven}
+use Rattle.law.specs.Runs.{Edition, site_of, AllGivenLawfully}
 
 -- the bytes of the newest of these files; none where there is no file
 abbrev pub newest_bytes : List Edition → List ℕ
@@ -18,7 +18,7 @@ former_bytes (x ∷ earlier) = newest_bytes earlier
 -- that it published, byte for byte
 pub record IsAtWork (server : State) (file former : List ℕ) : Type 0 where
   pub calls : List Call
-  pub given : AllLawfullyGiven calls
+  pub given : AllGivenLawfully calls
   pub is_server : (site_of calls).server ≡ server
   pub is_newest : newest_bytes (site_of calls).files ≡ file
   pub is_former : former_bytes (site_of calls).files ≡ former

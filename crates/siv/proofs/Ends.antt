@@ -7,7 +7,7 @@ use Rattle.byte_strings.proofs.Xors.{xors_xors, xors_length}
 use Rattle.byte_strings.proofs.Tails.{tail_added}
 use Rattle.wrap_rules.specs.S2v.{xorend}
 
--- after a block was added to the last 16 bytes
+-- adding a block to the last 16 bytes, in place, is xorend
 pub end_added : (s d ys : List ℕ) → ys ≡ xors (take (length s - (length s - 16)) (drop (length s - 16) s)) d →
     put_mid (length s - 16) (length s - (length s - 16)) s ys ≡ xorend s d
 unfolding xorend

@@ -9,8 +9,7 @@ use Rattle.statements.proofs.Run.{run_examples}
 -- all worked examples hold
 pub worked_examples : WorkedExamplesHold
 worked_examples = record {
-  s_box_of_00 = box_examples.0;
-  s_box_of_53 = box_examples.1;
+  boxes = box_examples;
   ample = ample_examples;
   plans = examples;
   servers = server_examples;

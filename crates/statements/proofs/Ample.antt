@@ -19,39 +19,31 @@ use Rattle.strategy_rules.proofs.UserLaw.{user_oriented_lawful}
 use Rattle.strategy_rules.proofs.KeyLaw.{key_oriented_lawful}
 use Rattle.server_rules.specs.declared.state.State.{State}
 use Rattle.server_rules.specs.States.{row, has_notes}
-use Rattle.cradles.specs.Draws.{has_arrival, arrival_leaves, drawn_size}
+use Rattle.cradles.specs.Draws.{is_arrival_code, arrival_leaves, drawn_size}
 use Rattle.server_rules.specs.Calls.{Publishing}
 use Rattle.wrap.specs.Meaning.{WrapMeaning, IsLawfulWrap}
 use Rattle.server_rules.specs.Publishings.{publishing_plan, publishing_size, publishing_report, due_verdict, lent_verdict, publish_plan_verdict}
-use Rattle.server_rules.specs.Publishings.{publish_file_verdict, publish_verdict, verdict_and}
+use Rattle.server_rules.specs.Publishings.{publish_file_verdict, publish_verdict}
+use Rattle.std.specs.Result.{result_and}
 use Rattle.server_rules.specs.Sound.{IsSoundServer}
 use Rattle.law.specs.Runs.{site_of}
 use Rattle.law.proofs.EveryRun.{every_run}
 use Rattle.statements.specs.Ample.{IsAmple, IsAmpleBy, three_rules, zero_publishing, AmpleExamplesHold}
+use Rattle.cradles.proofs.Gathering.{leaves_count, inners_count}
 
 -- a filter keeps no more than there are
 kept_few : (f : ℕ → Bool) (xs : List ℕ) → length (filter f xs) ≤ length xs
 kept_few f xs = omega (arith, length-filter_both f (λ x. not (f x)) (λ x. refl) xs)
 
--- the tree has 128 leaves
-leaf_count : length tree_leaves ≡ 128
-unfolding tree_leaves
-leaf_count = refl
-
--- the tree has 127 inner nodes
-inner_count : length inner_nodes ≡ 127
-unfolding inner_nodes
-inner_count = refl
-
 -- no more than the 127 inner nodes change at once
 few_changes : (r : List Code) → length (changed_nodes r) ≤ 127
 unfolding changed_nodes
-few_changes r = omega (arith, kept_few (is_changed r) inner_nodes, inner_count)
+few_changes r = omega (arith, kept_few (is_changed r) inner_nodes, inners_count)
 
 -- no more than 128 arrive at once
 few_arrivals : (r : List Code) → length (arrival_leaves r) ≤ 128
 unfolding arrival_leaves
-few_arrivals r = omega (arith, kept_few (λ u. has_arrival (code_at r u)) tree_leaves, leaf_count)
+few_arrivals r = omega (arith, kept_few (λ u. is_arrival_code (code_at r u)) tree_leaves, leaves_count)
 
 -- no change draws more than 8160 bytes
 few_drawn : (r : List Code) → drawn_size r ≤ 8160
@@ -72,12 +64,12 @@ module _ (s : State) (p : Publishing) (some : has_notes s ≡ true) (early : s.e
 
   -- all checks before that of the file's room pass
   pub plan_passes : publish_plan_verdict s p ≡ Ok tt
-  plan_passes = ap (λ v. verdict_and v (lent_verdict s p)) due_passes ∙ lent_passes
+  plan_passes = ap (λ v. result_and v (lent_verdict s p)) due_passes ∙ lent_passes
 
   -- with room for the file, the publishing is accepted and reported
   pub publish_passes : publishing_size s p ≤ length p.file → publish_verdict s p ≡ Ok (publishing_report s p)
   publish_passes room =
-      ap (λ v. verdict_and v (publish_file_verdict s p)) plan_passes
+      ap (λ v. result_and v (publish_file_verdict s p)) plan_passes
       ∙ ap (λ b. cond b (refusal 12 (publishing_size s p ∷ [])) (Ok (publishing_report s p))) (le-ltb (length p.file) (publishing_size s p) room)
 
 module _ (s : State) (sound : IsSoundServer s) (some : has_notes s ≡ true) (early : s.epoch < 1000000) (p : Publishing) (a : IsAmple p) where

@@ -16,7 +16,7 @@ use Rattle.server_rules.specs.Publishings.{publishing_plan, publishing_size, pub
 use Rattle.server_rules.specs.Steps.{server_of_next_epoch, server_after}
 use Rattle.server_rules.specs.Sound.{IsSoundServer}
 use Rattle.server_rules.proofs.FilesSound.{file_sound}
-use Rattle.law.specs.Runs.{AllLawfullyGiven, server_of}
+use Rattle.law.specs.Runs.{AllGivenLawfully, server_of}
 use Rattle.law.proofs.EveryRun.{every_run}
 use Rattle.statements.specs.Ample.{IsAmple, IsAmpleBy}
 use Rattle.statements.specs.Examples.{first_change, second_change, third_change, change_of_four, last_change, byte_count}
@@ -28,12 +28,12 @@ padded_row codes = codes ++ replicate (128 - length codes) Empty
 
 -- calls after which something is noted, and an epoch is left: a publishing can be accepted
 pub record IsReady (calls : List Call) : Type 0 where
-  pub given : AllLawfullyGiven calls
+  pub given : AllGivenLawfully calls
   pub noted : has_notes (server_of calls) ≡ true
   pub early : (server_of calls).epoch < 1000000
 
 -- if the server is another one, by an equation
-ready_by : (calls : List Call) (s : State) → AllLawfullyGiven calls → server_of calls ≡ s → has_notes s ≡ true → s.epoch < 1000000 → IsReady calls
+ready_by : (calls : List Call) (s : State) → AllGivenLawfully calls → server_of calls ≡ s → has_notes s ≡ true → s.epoch < 1000000 → IsReady calls
 ready_by calls s given is noted early = record {
   given = given;
   noted = ap has_notes is ∙ noted;

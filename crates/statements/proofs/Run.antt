@@ -17,7 +17,7 @@ use Rattle.server_rules.specs.Publishings.{publishing_size, publishing_report, f
 use Rattle.server_rules.specs.Steps.{server_of_next_epoch}
 use Rattle.player_rules.specs.Players.{Player, waiting, PlayerCall, enrol_verdict, ring_after_enrol, is_player_refused}
 use Rattle.law.specs.Book.{Seat, Stay, Book, book_after, book_of_next_epoch, IsStay, IsMember}
-use Rattle.law.specs.Runs.{Edition, group_key, verdict_editions, Site, site_after, site_of, AllLawfullyGiven, server_of, book_of, files_of}
+use Rattle.law.specs.Runs.{Edition, group_key, verdict_editions, Site, site_after, site_of, AllGivenLawfully, server_of, book_of, files_of}
 use Rattle.law.specs.Players.{IsGivenCard, card_of, Course, enrolled, aside, handed, own, files_from_to, Enrols, HoldsGroupKey, read_of}
 use Rattle.law.specs.Law.{LawHoldsAfter}
 use Rattle.law.proofs.EveryRun.{every_run}
@@ -110,7 +110,7 @@ module _ (p q : Publishing) (buffer : List ℕ) (a : IsAmple p) (b : IsAmple q) 
   noted_so = ap (λ (w : Site). site_after (site_after w (remove 1001)) (admit 1002 1)) (carded ∙ seated_site)
 
   -- these calls are lawfully given
-  noted_given : AllLawfullyGiven noted_calls
+  noted_given : AllGivenLawfully noted_calls
   noted_given = (tt, (tt, (tt, (a.given, (tt, tt)))))
 
   -- all calls of the run

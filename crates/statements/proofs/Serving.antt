@@ -17,7 +17,8 @@ use Rattle.tree.specs.Plans.{StrategyMeaning}
 use Rattle.keys.specs.Limits.{is_serial}
 use Rattle.server_rules.specs.Notes.{remove_verdict}
 use Rattle.cradles.specs.Cradles.{is_cradle}
-use Rattle.server_rules.specs.Publishings.{publishing_plan, publishing_size, verdict_and, lent_verdict, publish_file_verdict, publish_verdict}
+use Rattle.server_rules.specs.Publishings.{publishing_plan, publishing_size, lent_verdict, publish_file_verdict, publish_verdict}
+use Rattle.std.specs.Result.{result_and}
 use Rattle.law.specs.Runs.{server_of}
 use Rattle.statements.specs.Examples.{first_change, byte_count}
 use Rattle.statements.specs.Servers.{IsEnoughForOne, ServerExamplesHold}
@@ -52,7 +53,7 @@ s = server_of first_change
 a_byte_short : (p : Publishing) → 512 ≤ length p.work → length p.material ≡ 255 → publish_verdict s p ≡ refusal 10 (256 ∷ [])
 a_byte_short p work material =
     let less : length p.material < drawn_size (row s) = omega (arith, material, one_arrival) in
-    ap (λ (v : Verdict (Unit {0})). verdict_and v (publish_file_verdict s p))
+    ap (λ (v : Verdict (Unit {0})). result_and v (publish_file_verdict s p))
     (short_material s p 256 (le-ltb (length p.work) 512 work) (lt-ltb (length p.material) (drawn_size (row s)) less) one_arrival)
 
 -- the key-oriented plan for one arrival, where nobody else is, has 7 pairs

@@ -9,12 +9,12 @@ use Rattle.strategy_rules.specs.Rules.{Rule, candidates, pairs_for, plan, star_r
 use Rattle.file_rules.specs.Files.{file_size}
 use Rattle.server_rules.specs.States.{row}
 use Rattle.server_rules.specs.Calls.{Publishing}
-use Rattle.law.specs.Runs.{AllLawfullyGiven, server_of}
+use Rattle.law.specs.Runs.{AllGivenLawfully, server_of}
 use Rattle.statements.specs.Ample.{IsAmple, IsAmpleBy, three_rules}
 use Rattle.statements.specs.Examples.{first_change, second_change, third_change, three_changes, change_of_four, last_change, arrival_calls}
 use Rattle.statements.specs.Examples.{pair_count, byte_count, ChangeExamplesHold}
 use Rattle.statements.proofs.Changes as changes
-use Rattle.statements.proofs.Changes.{padded_row, by_row, IsReady, first_ready}
+use Rattle.statements.proofs.Changes.{padded_row, by_row, first_ready}
 
 -- how many pairs a rule plans for a row
 abbrev plan_length : Rule → List Code → ℕ
@@ -88,7 +88,7 @@ unfolding is_within tree_nodes tree_leaves inner_nodes stands_within is_changed 
 all_change = refl
 
 -- any number of admissions is lawfully given
-arrivals_given : (k : ℕ) → AllLawfullyGiven (arrival_calls k)
+arrivals_given : (k : ℕ) → AllGivenLawfully (arrival_calls k)
 arrivals_given zero = tt
 arrivals_given (suc k) = (tt, arrivals_given k)
 

@@ -1,4 +1,4 @@
--- What is left of a plan while its pairs are list.
+-- What is left of a plan while its pairs are laid.
 use Rattle.std.proofs.Common.{◌≡◌, ℕ, zero, suc, ◌+◌, ◌-◌, ◌<◌, ◌≤◌, true, false, cond, List, [], ◌∷◌, ◌++◌, map, length, take, drop, filter, sym, refl, ap}
 use Rattle.std.proofs.Common.{◌∙◌, arith}
 use Rattle.std.specs.List.{range_with_len, flat_map}
@@ -14,9 +14,10 @@ use Rattle.tree.specs.Plans.{pair}
 use Rattle.tree.proofs.Standing.{changed_nodes_up_to, changed_none, changed_yes, changed_no, changed_all}
 use Rattle.strategy_rules.specs.Rules.{Rule, candidates, pairs_for, plan}
 use Rattle.strategies.specs.declared.writer.PairList.{PairList}
-use Rattle.strategies.specs.Writing.{with_pair, with_pairs, pairs_under}
+use Rattle.strategies.specs.Writing.{with_pair, with_pairs}
+use Rattle.strategy_rules.specs.Rules.{pairs_under}
 
--- two lists of pairs laid one after the other are their joined list
+-- laying two lists of pairs one after the other is laying their joined list
 with_append : (list : PairList) (xs ys : List Pair) → with_pairs list (xs ++ ys) ≡ with_pairs (with_pairs list xs) ys
 with_append list [] ys = refl
 with_append list (x ∷ xs) ys = with_append (with_pair list x) xs ys
@@ -59,7 +60,7 @@ with_whole list xs e h =
     let long : list.count + length xs ≡ length xs = omega arith in
     with_fits list xs (omega arith) ∙ ap (λ i. take i out ++ (xs ++ drop (list.count + length xs) out)) e ∙ ap (λ i. xs ++ drop i out) long
 
--- what is list does not depend on the room's name
+-- lists with the same count and the same room have the same room after the same pairs
 pub with_same : (a b : PairList) (xs : List Pair) → a.count ≡ b.count → a.room.now ≡ b.room.now
     → (with_pairs a xs).room.now ≡ (with_pairs b xs).room.now
 with_same a b [] c w = w

@@ -3,7 +3,8 @@ ghost use Rattle.std.specs.Prelude.{◌≡◌, ◌+◌, ◌<◌, ◌≤◌, ◌+
 ghost use Rattle.refusal.specs.Refusals.{verdict_of};
 ghost use Rattle.tree.specs.Calls.{plan_refusal, strategy_verdict, pairs_after_plan};
 ghost use Rattle.strategy_rules.specs.Rules.{pairs_for, plan};
-ghost use Rattle.strategies.specs.Writing.{with_pair, with_pairs, pairs_under};
+ghost use Rattle.strategies.specs.Writing.{with_pair, with_pairs};
+ghost use Rattle.strategy_rules.specs.Rules.{pairs_under};
 
 use crate::serving::Rule;
 use tree::{Board, Opener, Pair, PlanFault};

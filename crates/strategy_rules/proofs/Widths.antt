@@ -55,7 +55,7 @@ abbrev is_at_most : (ℕ → ℕ) → (ℕ → ℕ) → List ℕ → Bool
 is_at_most f g [] = true
 is_at_most f g (x ∷ xs) = leb (f x) (g x) && is_at_most f g xs
 
--- where this is computed, f is at most g at each number of the list
+-- where the test passes, f is at most g at each number of the list
 at_most_lem : (f g : ℕ → ℕ) (xs : List ℕ) (x : ℕ) → is_at_most f g xs ≡ true → In x xs → f x ≤ g x
 at_most_lem f g [] x e i = absurd i
 at_most_lem f g (y ∷ ys) x e (inl q) = rw q (leb-true (f y) (g y) (and_parts (leb (f y) (g y)) (is_at_most f g ys) e).0)
@@ -83,7 +83,7 @@ module _ (test : ℕ → Bool) (n : ℕ) where
     pub under : IsBeneath o n
     pub passes : test o ≡ true
 
-  -- what passes all three tests is a leaf beneath n that passes
+  -- what passes all three tests is a leaf, beneath n, and passes the last of them
   pub leaf_under : (o : ℕ) → (is_leaf o && (is_beneath o n && test o)) ≡ true → IsLeafUnder o
   leaf_under o e =
       let a = and_parts (is_leaf o) (is_beneath o n && test o) e in

@@ -19,9 +19,13 @@ Rule = List Code → ℕ → Opener → Bool
 unfoldable pub candidates : ℕ → List Opener
 candidates n = Former n ∷ map Present tree_nodes
 
+-- the pairs with the content n under those of some openers that serve it
+abbrev pub pairs_under : Rule → List Code → ℕ → List Opener → List Pair
+pairs_under rule row n openers = map (λ o. pair o n) (filter (rule row n) openers)
+
 -- the pairs with the content n
 unfoldable pub pairs_for : Rule → List Code → ℕ → List Pair
-pairs_for rule row n = map (λ o. pair o n) (filter (rule row n) (candidates n))
+pairs_for rule row n = pairs_under rule row n (candidates n)
 
 -- the changed nodes by falling number, each under the openers that serve it, rising
 unfoldable pub plan : Rule → List Code → List Pair

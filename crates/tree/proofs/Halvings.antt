@@ -123,6 +123,7 @@ within_stop m n h l = same_test (is_within m n) (ltb 0 n && eqb m n)
     (λ e. let w = within_is m n e in and_from (ltb 0 n) (eqb m n) (lt-ltb 0 n (within_node m n e)) (eq-eqb m n (omega (arith, halved_low w.0 m, w.1))))
     (λ e. let p = and_parts (ltb 0 n) (eqb m n) e in within_from m n h (ltb-true 0 n p.0) (0, eqb-true m n p.1))
 
+-- the lemmas by which a search goes through the halvings of a node
 pub ruleset walk = (within_step, within_stop)
 
 -- What stands where.

@@ -116,3 +116,9 @@ some_who test (y ∷ ys) e = elim (or_cases (test y) (list_any test ys) e) [
   | inl q ↦ (y, (inl refl, q))
   | inr r ↦ let w = some_who test ys r in (w.0, (inr w.1.0, w.1.1))
 ]
+
+-- what is counted down from k lies between 1 and k
+pub in_falling : (k i : ℕ) → In i (countdown k) → (0 < i) × (i ≤ k)
+in_falling zero i h = absurd h
+in_falling (suc k) i (inl e) = (omega arith, omega arith)
+in_falling (suc k) i (inr h) = let r = in_falling k i h in (r.0, omega arith)

@@ -31,7 +31,7 @@ pub unsteps_more : (d : List ℕ → List ℕ) (t : ℕ) (s : List ℕ) → unwr
 unfolding unwrap_steps
 unsteps_more d t s = rw (add-one t)
 
--- a step's number, as a block, is of bytes
+-- a step's number, as a 64-bit block, is of bytes
 word_bytes : (t : ℕ) → t < 256 → IsBytes (word64 t)
 word_bytes t h = (lit< tt, (lit< tt, (lit< tt, (lit< tt, (lit< tt, (lit< tt, (lit< tt, (h, tt))))))))
 

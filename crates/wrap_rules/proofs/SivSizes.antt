@@ -11,7 +11,7 @@ use Rattle.cmac.specs.Blocks.{number_of, dbl}
 use Rattle.cmac.specs.Cmac.{zeros, padding, cmac}
 use Rattle.cmac.proofs.Sizes.{bytes_of_sized, dbl_sized, padding_sized, cmac_sized}
 use Rattle.wrap_rules.specs.S2v.{xorend, gathered_block, last_string, s2v}
-use Rattle.wrap_rules.specs.Counter.{block_with_low7, counter_start, increment, keystream, ctr}
+use Rattle.wrap_rules.specs.Counter.{block_without_top_bit, counter_start, increment, keystream, ctr}
 
 -- a string of bytes in which a byte is written is one too
 set_bytes : (s : List ℕ) (i x : ℕ) → x < 256 → IsBytes s → IsBytes (slice_set s i x)
@@ -20,15 +20,15 @@ set_bytes (y ∷ s) zero x l h = (l, h.1)
 set_bytes (y ∷ s) (suc i) x l h = (h.0, set_bytes s i x l h.1)
 
 -- n bytes of which one loses its highest bit are n bytes
-low7_sized : (i n : ℕ) (s : List ℕ) → IsSized n s → IsSized n (block_with_low7 i s)
-low7_sized i n s h =
+without_top_bit_sized : (i n : ℕ) (s : List ℕ) → IsSized n s → IsSized n (block_without_top_bit i s)
+without_top_bit_sized i n s h =
     let x = bit_and (slice_index s i) 0x7f in
     let low : bit_and (slice_index s i) 0x7f < 256 = omega (arith, and_le_l (slice_index s i) 0x7f, at_byte s i h.1) in
     (length-set s i x ∙ h.0, set_bytes s i x low h.1)
 
 -- the counter starts as a block of bytes
 cleared_sized : (v : List ℕ) → IsSized 16 v → IsSized 16 (counter_start v)
-cleared_sized v h = low7_sized 12 16 (block_with_low7 8 v) (low7_sized 8 16 v h)
+cleared_sized v h = without_top_bit_sized 12 16 (block_without_top_bit 8 v) (without_top_bit_sized 8 16 v h)
 
 -- the counter plus one is a block of bytes
 inc_sized : (q : List ℕ) → IsSized 16 (increment q)

@@ -4,13 +4,13 @@ use Rattle.std.specs.Prelude.{List, [], ◌++◌, length, slice_index, slice_set
 use Rattle.byte_strings.specs.Strings.{xors}
 use Rattle.cmac.specs.Blocks.{number_of, bytes_of}
 
--- the byte at place i without its highest bit
-abbrev pub block_with_low7 : ℕ → List ℕ → List ℕ
-block_with_low7 i s = slice_set s i (bit_and (slice_index s i) 0x7f)
+-- the block, with the highest bit of its byte at place i cleared
+abbrev pub block_without_top_bit : ℕ → List ℕ → List ℕ
+block_without_top_bit i s = slice_set s i (bit_and (slice_index s i) 0x7f)
 
--- RFC 5297, 2.5: Q, the IV V with bits 31 and 63 cleared, counted from the right
+-- RFC 5297, 2.6: Q, the IV V with bits 31 and 63 cleared, counted from the right
 abbrev pub counter_start : List ℕ → List ℕ
-counter_start v = block_with_low7 12 (block_with_low7 8 v)
+counter_start v = block_without_top_bit 12 (block_without_top_bit 8 v)
 
 -- RFC 5297, 2.5: the counter plus one, as a number of 128 bits
 unfoldable pub increment : List ℕ → List ℕ

@@ -1,7 +1,7 @@
 //! Bytes in hexadecimal: read in either case, written in lower case.
 ghost use Rattle.std.specs.Prelude.{◌≡◌, ◌<◌, IfSome, Some, MatchResult};
 ghost use Rattle.wraptool.specs.declared.hex.HexFault.TheVariants.{NoMemory};
-ghost use Rattle.wraptool.specs.Digits.{digit_value, pair_value, decoded_bytes, IsHexFaultOf};
+ghost use Rattle.wraptool.specs.Digits.{hex_digit_value, byte_of_digits, decoded_bytes, IsHexFaultOf};
 ghost use Rattle.wraptool.specs.Digits.{two_digits, hex_digits};
 
 use std::alloc::{AllocFailed, Global};
@@ -29,7 +29,7 @@ impl From<AllocFailed<u8>> for HexFault {
 
 // The value of a hexadecimal digit of either case.
 fn digit(c: u8) -> Option<u8>
-    ensures value { result ≡ digit_value c }
+    ensures value { result ≡ hex_digit_value c }
     ensures small { IfSome result (λ v. v < 16) }
 {
     // `char::to_digit` gives a u32, which would have to be cast back.
@@ -43,7 +43,7 @@ fn digit(c: u8) -> Option<u8>
 
 // The byte that two digits write.
 fn pair(c: u8, d: u8) -> Option<u8>
-    ensures { result ≡ pair_value c d }
+    ensures { result ≡ byte_of_digits c d }
 {
     let high = digit(c)?;
     let low = digit(d)?;

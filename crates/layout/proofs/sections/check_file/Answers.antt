@@ -4,8 +4,6 @@ use Rattle.layout.proofs.Whole.{head_answer, nodes_answer, count_answer, wraps_a
 use Rattle.layout.proofs.sections.check_file.Goals as goal
 use Rattle.layout.proofs.sections.check_file.Goals.{After-head, After-nodes, After-count, After-wraps}
 
--- what each part answers, in the file's own bytes and at the values that the parts before it gave
-
 -- the check of the head, at the beginning of the file
 head : (c : After-head) → c.head.result ≡ head_answer c.args.kind c.args.sealed_len c.args.bytes.now 0 0
 head c = rw c.new-file.ensures.bytes at (c.head.ensures c.new-file.ensures.first).answer
